@@ -1,0 +1,183 @@
+-- What refusal 11 leaves: a row that may walk on; and it never refuses a row of the walk. Assumes nothing.
+use mathlib.Core.Path.{_≡_, refl, sym, ap, _∙_}
+use mathlib.Core.Bool.{Bool, true, false, _&&_}
+use mathlib.Core.List.{List, _++_}
+use Prim.Native.Nat.{ℕ, suc, _+_, _-_, _≤_, _<_}
+use native.Mathlib.Omega.{arith}
+use borrow.Author.Tests.{leb-true, le-leb}
+use lib.Dec.{leb, eqb}
+use lib.IntN.{ℤ, pos, negsuc, _-ℤ_}
+use lib.ListN.{length, take, replicate, length-append, length-replicate}
+use lib.Seq.{length-take-le, take-at}
+use lib.Signed.{leZ, ltZ}
+use Rattle.walk.specs.Numbers.{le?, lt?, eqZ?, allUpTo}
+use Rattle.walk.specs.Units.{M, million, wide, massLimit, horizonLimit}
+use Rattle.walk.specs.Spending.{IsSpending}
+use Rattle.walk.specs.Walk.{below}
+use Rattle.walk.specs.Row.{Row, upper, total, rows, Sound, SoundAt}
+use Rattle.walk.specs.Record.{firstAbove, rowOf, recordOf, isWide, padded}
+use Rattle.walk.specs.Soundness.{boundariesSound, isSound, Steppable}
+use Rattle.walk.specs.declared.Walked.{Walked}
+use Rattle.walk.proofs.Tests.{and-true, le?-sound, le?-complete}
+use Rattle.walk.proofs.Boundaries.{apart-below, apart-order, above-below, below-above, below-least, over-below}
+use Rattle.walk.proofs.Lists.{all-more}
+use Rattle.walk.proofs.RowSteps.{allowed-next, rows-sound, rows-small, rows-fit}
+
+-- ---- a row and its record
+
+pub padded-length : (masses : List ℕ) → length masses ≤ wide → length (padded masses) ≡ wide
+unfolding padded
+padded-length masses h =
+    omega (arith, length-append masses (replicate (wide - length masses) 0), length-replicate {A = ℕ} (wide - length masses) 0)
+
+-- the record and the words of a row give it back
+pub row-back : (r : Row) → rowOf (recordOf r) (padded (r .masses)) ≡ r
+unfolding rowOf recordOf padded
+row-back r = λ i. record { first = above-below (r .first) i; masses = masses-back i; over = r .over; under = r .under }
+  where
+    masses-back : take (upper r - firstAbove (below (r .first))) (r .masses ++ replicate (wide - length (r .masses)) 0) ≡ r .masses
+    masses-back = take-at (r .masses) (replicate (wide - length (r .masses)) 0) (upper r - firstAbove (below (r .first))) (rw (above-below (r .first)) (omega arith))
+
+-- a row's record is wide exactly when the row has 769 live counts
+pub wide-record : (r : Row) → isWide (recordOf r) ≡ eqb (suc (length (r .masses))) 770
+unfolding isWide recordOf eqZ?
+wide-record r =
+    let d : upper r - r .first ≡ length (r .masses) = omega arith in
+    rw (apart-below (upper r) (r .first) (omega arith), d)
+
+-- ---- what the checks on the boundaries say
+
+-- the checks as plain numbers, where the record's lower boundary is just below f
+pub record Between (e n s f : ℕ) (w : Walked) : Type 0 where
+  pub signed : w .lower ≡ below f
+  pub top : w .upper ≤ suc n
+  pub order : f < w .upper
+  pub fits : w .upper ≤ f + 769
+  pub from : f ≤ s
+  pub to : s < w .upper
+  pub over-fits : w .over ≤ e
+  pub under-fits : w .under ≤ e
+
+module _ (e n s : ℕ) (w : Walked) where
+  pub boundaries-say : boundariesSound e n s w ≡ true → Between e n s (firstAbove (w .lower)) w
+  unfolding boundariesSound
+  boundaries-say h =
+      let a1 = and-true (leZ (negsuc 0) (w .lower)) _ h in
+      let a2 = and-true (le? (w .upper) (suc n)) _ (a1 .1) in
+      let a3 = and-true (leZ (pos 2) (pos (w .upper) -ℤ w .lower)) _ (a2 .1) in
+      let a4 = and-true (leZ (pos (w .upper) -ℤ w .lower) (pos 770)) _ (a3 .1) in
+      let a5 = and-true (ltZ (w .lower) (pos s)) _ (a4 .1) in
+      let a6 = and-true (lt? s (w .upper)) _ (a5 .1) in
+      let a7 = and-true (le? (w .over) e) _ (a6 .1) in
+      let z : w .lower ≡ below (firstAbove (w .lower)) = below-above (w .lower) (a1 .0) in
+      let o : firstAbove (w .lower) < w .upper = apart-order (w .upper) (firstAbove (w .lower)) (ap (λ (y : ℤ). leZ (pos 2) (pos (w .upper) -ℤ y)) (sym z) ∙ a3 .0) in
+      let d : pos (w .upper) -ℤ w .lower ≡ pos (suc (w .upper - firstAbove (w .lower))) = ap (λ (y : ℤ). pos (w .upper) -ℤ y) z ∙ apart-below (w .upper) (firstAbove (w .lower)) (omega arith) in
+      record {
+        signed = z;
+        top = le?-sound (w .upper) (suc n) (a2 .0);
+        order = o;
+        fits = omega (arith, leb-true (suc (w .upper - firstAbove (w .lower))) 770 (ap (λ (y : ℤ). leZ y (pos 770)) (sym d) ∙ a4 .0));
+        from = le?-sound (firstAbove (w .lower)) s (sym (over-below (firstAbove (w .lower)) s) ∙ ap (λ (y : ℤ). ltZ y (pos s)) (sym z) ∙ a5 .0);
+        to = le?-sound (suc s) (w .upper) (a6 .0);
+        over-fits = le?-sound (w .over) e (a7 .0);
+        under-fits = le?-sound (w .under) e (a7 .1);
+      }
+
+  pub boundaries-hold : (f : ℕ) → Between e n s f w → boundariesSound e n s w ≡ true
+  unfolding boundariesSound
+  boundaries-hold f b =
+      let d : pos (w .upper) -ℤ w .lower ≡ pos (suc (w .upper - f)) = ap (λ (y : ℤ). pos (w .upper) -ℤ y) (b .signed) ∙ apart-below (w .upper) f (omega (arith, b .order)) in
+      cc (
+        ap (leZ (negsuc 0)) (b .signed) ∙ below-least f,
+        le?-complete (w .upper) (suc n) (b .top),
+        ap (leZ (pos 2)) d ∙ le-leb 2 (suc (w .upper - f)) (omega (arith, b .order)),
+        ap (λ (y : ℤ). leZ y (pos 770)) d ∙ le-leb (suc (w .upper - f)) 770 (omega (arith, b .fits)),
+        ap (λ (y : ℤ). ltZ y (pos s)) (b .signed) ∙ over-below f s ∙ le?-complete f s (b .from),
+        le?-complete (suc s) (w .upper) (b .to),
+        le?-complete (w .over) e (b .over-fits),
+        le?-complete (w .under) e (b .under-fits),
+      )
+
+-- ---- refusal 11, of words of the right number
+
+-- what it leaves: the record and the words hold a row that is sound after n steps, fits its words, and has s among its live counts
+pub record Checked (E : ℕ → ℕ) (n s : ℕ) (w : Walked) (words : List ℕ) : Type 0 where
+  pub signed : w .lower ≡ below (firstAbove (w .lower))
+  pub upper-is : w .upper ≡ upper (rowOf w words)
+  pub fits : length (rowOf w words .masses) ≤ wide
+  pub from : rowOf w words .first ≤ s
+  pub to : s < upper (rowOf w words)
+  pub small : allUpTo massLimit (rowOf w words .masses) ≡ true
+  pub sound : SoundAt E n (rowOf w words)
+
+module _ (E : ℕ → ℕ) (n s : ℕ) (w : Walked) (words : List ℕ) (size : length words ≡ wide) where
+  pub checked : isSound (E n) n s w words ≡ true → Checked E n s w words
+  unfolding isSound rowOf wide
+  checked h =
+      let a1 = and-true (boundariesSound (E n) n s w) _ h in
+      let a2 = and-true (allUpTo massLimit (rowOf w words .masses)) _ (a1 .1) in
+      let b = boundaries-say (E n) n s w (a1 .0) in
+      let l : length (take (w .upper - firstAbove (w .lower)) words) ≡ w .upper - firstAbove (w .lower) =
+      length-take-le (w .upper - firstAbove (w .lower)) words (omega (arith, b .fits)) in
+      record {
+        signed = b .signed;
+        upper-is = omega (arith, b .order);
+        fits = omega (arith, b .fits);
+        from = b .from;
+        to = omega (arith, b .to, b .order);
+        small = a2 .0;
+        sound = record {
+          sound = record { live = omega (arith, b .order); over-fits = b .over-fits; under-fits = b .under-fits; full = le?-sound M _ (a2 .1) };
+          top = omega (arith, b .top, b .order);
+        };
+      }
+
+  -- what a step asks, unless the row is wide
+  pub steppable : (a : ℕ) → a ≤ million → IsSpending E → n < horizonLimit → length (rowOf w words .masses) < wide → isSound (E n) n s w words ≡ true
+      → Steppable a (E (suc n)) w words
+  unfolding rowOf
+  steppable a threshold spends early narrow h =
+      let c = checked h in
+      record {
+        threshold = threshold;
+        half = spends .half (suc n);
+        size = size;
+        signed = c .signed;
+        narrow = omega (arith, c .upper-is);
+        early = omega (arith, c .upper-is, c .sound .top);
+        small = c .small;
+        sound = allowed-next a threshold E spends n (rowOf w words) (c .sound);
+      }
+
+-- ---- it refuses no sound row that fits its words
+
+pub row-passes : (E : ℕ → ℕ) (n s : ℕ) (r : Row) → SoundAt E n r → length (r .masses) ≤ wide → allUpTo massLimit (r .masses) ≡ true
+    → r .first ≤ s → s < upper r → isSound (E n) n s (recordOf r) (padded (r .masses)) ≡ true
+unfolding isSound recordOf wide
+row-passes E n s r sound fits small from to =
+    rw (row-back r)
+    (cc (
+      boundaries-hold (E n) n s (recordOf r) (r .first) between,
+      small,
+      le?-complete M (total r) (sound .sound .full),
+    ))
+  where
+    between : Between (E n) n s (r .first) (recordOf r)
+    between = record {
+      signed = refl;
+      top = sound .top;
+      order = omega (arith, sound .sound .live);
+      fits = omega arith;
+      from = from;
+      to = to;
+      over-fits = sound .sound .over-fits;
+      under-fits = sound .sound .under-fits;
+    }
+
+-- .. and so none of the walk, as long as no step before was wide
+pub walk-passes : (a : ℕ) → a ≤ million → (E : ℕ → ℕ) → IsSpending E → (n s : ℕ) → ((t : ℕ) → t < n → ¬ (length (rows a E t .masses) ≡ wide))
+    → rows a E n .first ≤ s → s < upper (rows a E n) → isSound (E n) n s (recordOf (rows a E n)) (padded (rows a E n .masses)) ≡ true
+unfolding M massLimit
+walk-passes a threshold E spends n s none from to =
+    row-passes E n s (rows a E n) (rows-sound a threshold E spends n) (rows-fit a threshold E spends n none)
+    (all-more M massLimit (rows a E n .masses) (omega arith) (rows-small a threshold E spends n)) from to

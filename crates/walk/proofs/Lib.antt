@@ -1,0 +1,21 @@
+pub mod Tests
+pub mod Lists
+pub mod Rounding
+pub mod Cells
+pub mod Cuts
+pub mod RowSteps
+pub mod Searches
+pub mod Agreement
+pub mod SpendingLaws
+pub mod StringLaws
+pub mod Exact
+pub mod Meeting
+pub mod Chances
+mod Trials
+pub mod Boundaries
+pub mod WalkFacts
+pub mod Checks
+pub mod Seams
+pub mod Loops
+pub mod Signed
+pub mod Parts

@@ -1,0 +1,88 @@
+-- What the crate above cites in place of the definitions: the walk's rows and marks, one step more. Assumes nothing.
+use mathlib.Core.Path.{_≡_, refl, sym, ap, _∙_}
+use mathlib.Core.Logic.{_⊎_, inl, inr}
+use mathlib.Core.Bool.{Bool, true, false}
+use mathlib.Core.List.{List, [], _∷_}
+use Prim.Native.Nat.{ℕ, zero, suc, _+_, _≤_, _<_}
+use native.Mathlib.Nat.{eq-or-lt-of-le, le-of-lt}
+use native.Mathlib.Omega.{arith}
+use lib.ListN.{length, getD}
+use Rattle.walk.specs.Numbers.{le?, lt?}
+use Rattle.walk.specs.Units.{million, wide}
+use Rattle.walk.specs.Spending.{IsSpending}
+use Rattle.walk.specs.Walk.{start, walk, firstAt, upperAt, NoWideBefore}
+use Rattle.walk.specs.Row.{Row, upper, startRow, stepRow, rows}
+use Rattle.walk.specs.Strings.{Draws, ones, judged, verdict, orElse, mark, isOpen}
+use Rattle.walk.specs.declared.Mark.the-variants.{Open, Above, AtMost}
+use Rattle.walk.specs.declared.Mark.{Mark}
+use Rattle.walk.proofs.Tests.{test, Le?, le, gt, clash}
+use Rattle.walk.proofs.Agreement.{at-add, same, first-at, upper-at, not-wide}
+
+module _ (a : ℕ) (E : ℕ → ℕ) where
+  pub rows-zero : rows a E 0 ≡ startRow
+  unfolding rows
+  rows-zero = refl
+
+  pub rows-suc : (n : ℕ) → rows a E (suc n) ≡ stepRow a (E (suc n)) (rows a E n)
+  unfolding rows
+  rows-suc n = refl
+
+  -- the mark that this walk gives the draws s
+  abbrev pub markOf : Draws → Mark
+  markOf s = mark (firstAt a E) (upperAt a E) s
+
+  -- how S ones stand at step t
+  abbrev pub verdictOf : ℕ → ℕ → Mark
+  verdictOf t S = verdict (firstAt a E) (upperAt a E) t S
+
+  pub mark-nil : markOf [] ≡ Open
+  unfolding mark
+  mark-nil = refl
+
+  pub mark-cons : (b : Bool) (s : Draws) → markOf (b ∷ s) ≡ orElse (markOf s) (verdictOf (suc (length s)) (ones (b ∷ s)))
+  unfolding mark
+  mark-cons b s = refl
+
+  -- no step is before step 0
+  pub narrow-start : NoWideBefore a E 0
+  unfolding NoWideBefore
+  narrow-start t l = absurd (omega arith)
+
+  module _ (threshold : a ≤ million) (spends : IsSpending E) where
+    pub verdict-row : (t S : ℕ) → verdictOf t S ≡ judged t (le? (upper (rows a E t)) S) (lt? S (rows a E t .first))
+    unfolding verdict
+    verdict-row t S = rw (first-at a threshold E spends t, upper-at a threshold E spends t)
+
+    -- an open mark: the ones lie strictly between the boundaries
+    inside : (t S : ℕ) → verdictOf t S ≡ Open → (rows a E t .first ≤ S) × (S < upper (rows a E t))
+    inside t S e =
+        go (test (upper (rows a E t)) S) (test (suc S) (rows a E t .first)) (sym (verdict-row t S) ∙ e)
+      where
+        go : {o u : Bool} → Le? (upper (rows a E t)) S o → Le? (suc S) (rows a E t .first) u → judged t o u ≡ Open → (rows a E t .first ≤ S) × (S < upper (rows a E t))
+        go (le h) k e = let z : true ≡ false = cc (ap isOpen e) in clash z
+        go (gt h) (le k) e = let z : true ≡ false = cc (ap isOpen e) in clash z
+        go (gt h) (gt k) e = (omega arith, h)
+
+    pub open-inside : (s : Draws) → markOf s ≡ Open → (rows a E (length s) .first ≤ ones s) × (ones s < upper (rows a E (length s)))
+    unfolding startRow
+    open-inside [] e = rw (rows-zero) (omega arith, omega arith)
+    open-inside (b ∷ s) e = go (markOf s) (sym (mark-cons b s) ∙ e)
+      where
+        go : (m : Mark) → orElse m (verdictOf (suc (length s)) (ones (b ∷ s))) ≡ Open → (rows a E (suc (length s)) .first ≤ ones (b ∷ s)) × (ones (b ∷ s) < upper (rows a E (suc (length s))))
+        go Open f = inside (suc (length s)) (ones (b ∷ s)) f
+        go (Above t) f = let z : true ≡ false = cc (ap isOpen f) in clash z
+        go (AtMost t) f = let z : true ≡ false = cc (ap isOpen f) in clash z
+
+    -- one more step that is not wide
+    pub narrow-next : (n : ℕ) → NoWideBefore a E n → ¬ (length (rows a E n .masses) ≡ wide) → NoWideBefore a E (suc n)
+    narrow-next n none here = not-wide a threshold E spends (suc n) .1 (λ t l. go t (eq-or-lt-of-le l))
+      where
+        go : (t : ℕ) → (suc t ≡ suc n) ⊎ (suc t < suc n) → ¬ (length (rows a E t .masses) ≡ wide)
+        go t (inl q) e = let r : t ≡ n = omega arith in here (rw r at e)
+        go t (inr l) e = not-wide a threshold E spends n .0 none t (omega arith) e
+
+    -- word j of a row is the mass at count first + j
+    pub mass-word : (t j : ℕ) → walk a E t .mass (walk a E t .first + j) ≡ getD (rows a E t .masses) j 0
+    mass-word t j =
+        let s = same a threshold E spends t in
+        rw (s .first-same) (s .mass-same (rows a E t .first + j) ∙ at-add (rows a E t .first) (rows a E t .masses) j)

@@ -1,0 +1,65 @@
+-- The facts of 01: of one step from any sound row, and of the walk at every step. Assumes nothing.
+use mathlib.Core.Path.{_≡_, refl, sym, ap, _∙_}
+use Prim.Native.Nat.{ℕ, suc, _+_, _*_, _-_, _≤_, _<_}
+use native.Mathlib.Omega.{arith}
+use lib.Dec.{le→leb}
+use lib.IntN.{ℤ, pos, _-ℤ_}
+use lib.ListN.{getD}
+use lib.Signed.{_≤ℤ_, leZ-yes}
+use Rattle.walk.specs.Numbers.{le?, only}
+use Rattle.walk.specs.Units.{M, million, wide}
+use Rattle.walk.specs.Spending.{IsSpending}
+use Rattle.walk.specs.Walk.{below, lower, walk}
+use Rattle.walk.specs.Row.{byCount, rows}
+use Rattle.walk.specs.Facts.{StepTheorem, WalkFacts, WalkTheorem}
+use Rattle.walk.proofs.Tests.{only-le}
+use Rattle.walk.proofs.Lists.{all-getD}
+use Rattle.walk.proofs.Boundaries.{below-rises, apart-below}
+use Rattle.walk.proofs.RowSteps.{allowed-next, next-moves, next-sound, rows-sound, rows-move, rows-total, rows-small, rounded-few}
+use Rattle.walk.proofs.Agreement.{upper-is, lower-is, same, not-wide}
+use Rattle.walk.proofs.Chances.{walk-total, spent-fits}
+
+pub step-facts : StepTheorem
+step-facts a threshold E spends n r s =
+    let allowed = allowed-next a threshold E spends n r s in
+    let half = spends .half (suc n) in (
+      record {
+        upper-is = upper-is a threshold (E (suc n)) half n r allowed (s .top);
+        lower-is = lower-is a threshold (E (suc n)) half n r allowed (s .top);
+        sound = next-sound a threshold E spends n r s .sound;
+        moves = next-moves a threshold E spends n r s;
+      },
+      next-sound a threshold E spends n r s,
+    )
+
+far-enough : (u f : ℕ) → f < u → pos 2 ≤ℤ (pos u -ℤ below f)
+far-enough u f h = rw (apart-below u f (omega arith)) (leZ-yes (le→leb 2 (suc (u - f)) (omega arith)))
+
+pub walk-facts : WalkTheorem
+unfolding lower byCount
+walk-facts a threshold E spends n =
+    let s = same a threshold E spends n in
+    let s′ = same a threshold E spends (suc n) in
+    let m = rows-move a threshold E spends n in
+    let r = rows-sound a threshold E spends n in
+    record {
+      same = s;
+      apart = far-enough (walk a E n .upper) (walk a E n .first) (omega (arith, s .first-same, s .upper-same, r .sound .live));
+      top = omega (arith, s .upper-same, r .top);
+      upper-slow = omega (arith, s .upper-same, s′ .upper-same, m .upper-slow);
+      lower-rises = below-rises (walk a E n .first) (walk a E (suc n) .first) (omega (arith, s .first-same, s′ .first-same, m .lower-rises));
+      allowed = λ side. spent-fits a threshold E spends side n;
+      no-less = omega (arith, walk-total a threshold E spends n, r .sound .full);
+      no-more = λ none. omega (
+        arith,
+        walk-total a threshold E spends n,
+        rows-total a threshold E spends n,
+        rounded-few a threshold E spends n (not-wide a threshold E spends n .0 none),
+      );
+      small = λ c. omega (
+        arith,
+        s .mass-same c,
+        only-le (le? (rows a E n .first) c) (getD (rows a E n .masses) (c - rows a E n .first) 0),
+        all-getD M (rows a E n .masses) (rows-small a threshold E spends n) (c - rows a E n .first),
+      );
+    }

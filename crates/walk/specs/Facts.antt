@@ -1,0 +1,70 @@
+-- What is claimed of one step and of a walk (01, "Facts to be proved").
+use mathlib.Core.Path.{_≡_}
+use mathlib.Core.Bool.{true}
+use Prim.Native.Nat.{ℕ, suc, _+_, _*_, _≤_, _<_}
+use lib.IntN.{ℤ, pos, _-ℤ_}
+use lib.ListN.{length}
+use lib.Signed.{_≤ℤ_}
+use Rattle.walk.specs.Numbers.{Smallest, Largest, sumTo, allUpTo}
+use Rattle.walk.specs.Units.{M, million, wide}
+use Rattle.walk.specs.Spending.{IsSpending}
+use Rattle.walk.specs.Walk.{Walk, lower, newMass, FitsUpper, FitsLower, walk, NoWideBefore}
+use Rattle.walk.specs.Row.{Row, upper, total, byCount, roundings, stepRow, rows, Sound, SoundAt}
+use Rattle.walk.specs.Strings.{Side}
+use Rattle.walk.specs.Chance.{spent}
+
+-- ---- one step, with e to spend
+
+-- what a step does to the boundaries and the masses of the row r, where s is the row after it
+pub record Moves (a : ℕ) (r s : Row) : Type 0 where
+  pub upper-slow : upper s ≤ suc (upper r)
+  pub lower-rises : r .first ≤ s .first
+  -- it adds at most one unit for each cell that was really rounded; there are as many cells as live counts, and one more
+  pub adds : total s ≤ total r + roundings a (r .masses)
+  pub few : roundings a (r .masses) ≤ suc (length (r .masses))
+  -- no cell exceeds the largest old mass
+  pub none-larger : (b : ℕ) → allUpTo b (r .masses) ≡ true → allUpTo b (s .masses) ≡ true
+
+-- step n + 1 from the row r
+pub record StepFacts (a e n : ℕ) (r : Row) : Type 0 where
+  -- both boundaries exist: they are those of rules 2 and 3, and no other number is (proofs/Searches)
+  pub upper-is : Smallest (FitsUpper (suc n) e (newMass a (byCount (r .first) (r .masses))) (r .over)) 1 (1 + suc n) (upper (stepRow a e r))
+  pub lower-is : Largest (FitsLower (suc n) e (newMass a (byCount (r .first) (r .masses))) (r .under)) 0 (suc (suc n)) (stepRow a e r .first)
+  -- a live count is left, each spent mass is at most e, and no mass is lost
+  pub sound : Sound e (stepRow a e r)
+  pub moves : Moves a r (stepRow a e r)
+
+-- of every row that is sound after n steps, not only of those of a walk
+abbrev pub StepTheorem : Type 0
+StepTheorem =
+    (a : ℕ) → a ≤ million → (E : ℕ → ℕ) → IsSpending E → (n : ℕ) (r : Row) → SoundAt E n r
+    → StepFacts a (E (suc n)) n r × SoundAt E (suc n) (stepRow a (E (suc n)) r)
+
+-- ---- the walk
+
+-- the two forms of a walk, by count and by row, are the same
+pub record Same (w : Walk) (r : Row) : Type 0 where
+  pub first-same : w .first ≡ r .first
+  pub upper-same : w .upper ≡ upper r
+  pub mass-same : (c : ℕ) → w .mass c ≡ byCount (r .first) (r .masses) c
+  pub over-same : w .over ≡ r .over
+  pub under-same : w .under ≡ r .under
+
+-- live mass plus both spent masses after n steps
+abbrev pub massOf : ℕ → Walk → ℕ
+massOf n w = sumTo (suc n) (w .mass) + w .over + w .under
+
+-- after step n
+pub record WalkFacts (a : ℕ) (E : ℕ → ℕ) (n : ℕ) : Type 0 where
+  pub same : Same (walk a E n) (rows a E n)
+  pub apart : pos 2 ≤ℤ (pos (walk a E n .upper) -ℤ lower (walk a E n))
+  pub top : walk a E n .upper ≤ suc n
+  pub upper-slow : walk a E (suc n) .upper ≤ suc (walk a E n .upper)
+  pub lower-rises : lower (walk a E n) ≤ℤ lower (walk a E (suc n))
+  pub allowed : (side : Side) → spent side (walk a E n) ≤ E n
+  pub no-less : M ≤ massOf n (walk a E n)
+  pub no-more : NoWideBefore a E n → massOf n (walk a E n) ≤ M + wide * n
+  pub small : (c : ℕ) → walk a E n .mass c ≤ M
+
+abbrev pub WalkTheorem : Type 0
+WalkTheorem = (a : ℕ) → a ≤ million → (E : ℕ → ℕ) → IsSpending E → (n : ℕ) → WalkFacts a E n

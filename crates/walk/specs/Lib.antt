@@ -1,0 +1,12 @@
+-- What a reader of this crate has to believe, in the order of the paper (01). Definitions only; the laws are in proofs/.
+pub mod Numbers
+pub mod Units
+pub mod Spending
+pub mod Mass
+pub mod Walk
+pub mod Row
+pub mod Strings
+pub mod Chance
+pub mod Facts
+pub mod Record
+pub mod Soundness

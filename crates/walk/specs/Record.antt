@@ -1,0 +1,37 @@
+-- A row as the code holds it: a record with a signed lower boundary, and the 769 words of the threshold's part.
+use mathlib.Core.Bool.{Bool}
+use mathlib.Core.List.{List, _++_}
+use Prim.Native.Nat.{ℕ, zero, suc, _+_, _-_}
+use lib.IntN.{ℤ, pos, negsuc, _-ℤ_}
+use lib.ListN.{length, take, replicate}
+use Rattle.walk.specs.Numbers.{eqZ?}
+use Rattle.walk.specs.Units.{wide}
+use Rattle.walk.specs.Walk.{below}
+use Rattle.walk.specs.Row.{Row, upper}
+use Rattle.walk.specs.declared.Walked.{Walked}
+
+-- the first count above a lower boundary: lower + 1, and 0 below -1
+unfoldable pub firstAbove : ℤ → ℕ
+firstAbove (pos b) = suc b
+firstAbove (negsuc b) = 0
+
+-- the row of a record and its words: word i is the mass at count lower + 1 + i (01, "Words lent to a test")
+unfoldable pub rowOf : Walked → List ℕ → Row
+rowOf w words = record {
+  first = firstAbove (w .lower);
+  masses = take (w .upper - firstAbove (w .lower)) words;
+  over = w .over;
+  under = w .under;
+}
+
+-- the record of a row
+unfoldable pub recordOf : Row → Walked
+recordOf r = record { lower = below (r .first); upper = upper r; over = r .over; under = r .under }
+
+-- wide: upper - lower - 1 is 769, of any two boundaries
+unfoldable pub isWide : Walked → Bool
+isWide w = eqZ? (pos (w .upper) -ℤ w .lower) (pos 770)
+
+-- the words of a row: words after the live counts are zero
+unfoldable pub padded : List ℕ → List ℕ
+padded masses = masses ++ replicate (wide - length masses) 0

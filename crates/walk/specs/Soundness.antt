@@ -1,0 +1,53 @@
+-- What refusal 11 asks of an open threshold's record and words, and what a step asks of them.
+use mathlib.Core.Path.{_≡_}
+use mathlib.Core.Bool.{Bool, true, false, _&&_}
+use mathlib.Core.List.{List}
+use Prim.Native.Nat.{ℕ, suc, _+_, _≤_, _<_}
+use lib.IntN.{ℤ, pos, negsuc, _-ℤ_}
+use lib.Signed.{leZ, ltZ}
+use lib.ListN.{length}
+use Rattle.walk.specs.Numbers.{le?, lt?, allUpTo}
+use Rattle.walk.specs.Units.{M, million, wide, massLimit, horizonLimit}
+use Rattle.walk.specs.Walk.{below}
+use Rattle.walk.specs.Row.{Row, Sound, total}
+use Rattle.walk.specs.Record.{firstAbove, rowOf}
+use Rattle.walk.specs.declared.Walked.{Walked}
+use Rattle.walk.specs.declared.soundness.Masses.{Masses}
+use Rattle.walk.specs.declared.soundness.Masses.the-variants.{TooLarge, Total}
+
+-- 01, refusal 11, of an open threshold, in its order: n draws with s ones, e = E(n). Of any record and any words.
+module _ (e n s : ℕ) (w : Walked) where
+  -- lower < -1, upper > n + 1, upper - lower < 2 or > 770, s at or beyond a boundary, or a spent mass over e: none of these
+  unfoldable pub boundariesSound : Bool
+  boundariesSound =
+      leZ (negsuc 0) (w .lower)
+      && (le? (w .upper) (suc n)
+      && (leZ (pos 2) (pos (w .upper) -ℤ w .lower)
+      && (leZ (pos (w .upper) -ℤ w .lower) (pos 770)
+      && (ltZ (w .lower) (pos s)
+      && (lt? s (w .upper)
+      && (le? (w .over) e
+      && le? (w .under) e))))))
+
+  -- .. nor a live word over 2^43, nor live mass plus spent masses below M
+  unfoldable pub isSound : List ℕ → Bool
+  isSound words =
+      boundariesSound
+      && (allUpTo massLimit (rowOf w words .masses)
+      && le? M (total (rowOf w words)))
+
+-- What a step with e to spend asks: all of it holds of a state that refusal 11 lets through and that is not wide (proofs/Checks).
+pub record Steppable (a e : ℕ) (w : Walked) (words : List ℕ) : Type 0 where
+  pub threshold : a ≤ million
+  pub half : e + e < M
+  pub size : length words ≡ wide
+  pub signed : w .lower ≡ below (firstAbove (w .lower))
+  pub narrow : w .upper < firstAbove (w .lower) + wide
+  pub early : w .upper ≤ suc horizonLimit
+  pub small : allUpTo massLimit (rowOf w words .masses) ≡ true
+  pub sound : Sound e (rowOf w words)
+
+-- one pass over the live words: whether each is small enough, and their sum
+abbrev pub summed : Bool → ℕ → Masses
+summed true total = Total total
+summed false total = TooLarge

@@ -1,0 +1,105 @@
+-- The walk of one threshold a, as 01 has it: masses by count, boundaries by search. (01: bars; here boundaries.)
+use mathlib.Core.Path.{_≡_}
+use Prim.Native.Nat.{ℕ, zero, suc, _+_, _≤_, _<_}
+use lib.IntN.{ℤ, pos, negsuc}
+use Rattle.walk.specs.Numbers.{le?, lt?, between, only, sumTo, searchUp, searchDown}
+use Rattle.walk.specs.Units.{M, wide}
+use Rattle.walk.specs.Mass.{massUp}
+
+-- The number just below f. A lower boundary is signed and lies just below the first live count: -1 below count 0.
+unfoldable pub below : ℕ → ℤ
+below zero = negsuc 0
+below (suc f) = pos f
+
+-- A walk after a step. The live counts lie strictly between the boundaries: from `first` on and below `upper`.
+pub record Walk : Type 0 where
+  pub first : ℕ
+  pub upper : ℕ
+  pub mass : ℕ → ℕ
+  -- the upper and the lower spent mass
+  pub over : ℕ
+  pub under : ℕ
+
+-- the lower boundary
+unfoldable pub lower : Walk → ℤ
+lower w = below (w .first)
+
+-- step 0
+unfoldable pub start : Walk
+start = record { first = 0; upper = 1; mass = λ c. only (le? c 0) M; over = 0; under = 0 }
+
+-- the old mass at the count before
+abbrev pub previous : (ℕ → ℕ) → ℕ → ℕ
+previous g zero = 0
+previous g (suc c) = g c
+
+-- a number for each count, made of the old masses there and at the count before
+abbrev pub cellwise : (ℕ → ℕ → ℕ) → (ℕ → ℕ) → ℕ → ℕ
+cellwise cell g c = cell (g c) (previous g c)
+
+-- rule 1: the new masses, by count
+abbrev pub newMass : ℕ → (ℕ → ℕ) → ℕ → ℕ
+newMass a g = cellwise (massUp a) g
+
+-- of the masses at counts 0 to t: those at counts ≥ j; those at counts < f, which are the counts ≤ f - 1
+unfoldable pub massFrom : ℕ → (ℕ → ℕ) → ℕ → ℕ
+massFrom t g j = sumTo (suc t) (λ c. only (le? j c) (g c))
+
+unfoldable pub massBelow : ℕ → (ℕ → ℕ) → ℕ → ℕ
+massBelow t g f = sumTo (suc t) (λ c. only (lt? c f) (g c))
+
+-- rule 2, with e = E(t), the new masses g and the upper spent mass: j may be the upper boundary; the smallest such j from 1 to t + 1
+abbrev pub FitsUpper : ℕ → ℕ → (ℕ → ℕ) → ℕ → ℕ → Type 0
+FitsUpper t e g over j = massFrom t g j + over ≤ e
+
+unfoldable pub upperBoundary : ℕ → ℕ → (ℕ → ℕ) → ℕ → ℕ
+upperBoundary t e g over = searchUp t 1 (λ j. le? (massFrom t g j + over) e)
+
+-- rule 3: f - 1 may be the lower boundary; the largest such f - 1 from -1 to t
+abbrev pub FitsLower : ℕ → ℕ → (ℕ → ℕ) → ℕ → ℕ → Type 0
+FitsLower t e g under f = massBelow t g f + under ≤ e
+
+unfoldable pub firstLive : ℕ → ℕ → (ℕ → ℕ) → ℕ → ℕ
+firstLive t e g under = searchDown (suc t) (λ f. le? (massBelow t g f + under) e)
+
+-- rule 4: masses at or beyond a boundary join that side's spent mass
+unfoldable pub absorbed : ℕ → (ℕ → ℕ) → ℕ → ℕ → Walk → Walk
+absorbed t g first upper w = record {
+  first = first;
+  upper = upper;
+  mass = λ c. only (between first upper c) (g c);
+  over = w .over + massFrom t g upper;
+  under = w .under + massBelow t g first;
+}
+
+-- step t, with e = E(t)
+unfoldable pub stepWalk : ℕ → ℕ → ℕ → Walk → Walk
+stepWalk a e t w =
+    absorbed t (newMass a (w .mass))
+    (firstLive t e (newMass a (w .mass)) (w .under))
+    (upperBoundary t e (newMass a (w .mass)) (w .over))
+    w
+
+-- the walk of the threshold a with the spending E, after step n
+unfoldable pub walk : ℕ → (ℕ → ℕ) → ℕ → Walk
+walk a E zero = start
+walk a E (suc n) = stepWalk a (E (suc n)) (suc n) (walk a E n)
+
+-- its first live count and its upper boundary after step n
+unfoldable pub firstAt : ℕ → (ℕ → ℕ) → ℕ → ℕ
+firstAt a E n = walk a E n .first
+
+unfoldable pub upperAt : ℕ → (ℕ → ℕ) → ℕ → ℕ
+upperAt a E n = walk a E n .upper
+
+-- wide: upper - lower - 1 is 769
+abbrev pub Wide : Walk → Type 0
+Wide w = w .upper ≡ w .first + wide
+
+-- no step before n is wide: n is not past the first wide step
+unfoldable pub NoWideBefore : ℕ → (ℕ → ℕ) → ℕ → Type 0
+NoWideBefore a E n = (t : ℕ) → t < n → ¬ (Wide (walk a E t))
+
+-- t is the first wide step
+abbrev pub FirstWide : ℕ → (ℕ → ℕ) → ℕ → Type 0
+FirstWide a E t = Wide (walk a E t) × NoWideBefore a E t

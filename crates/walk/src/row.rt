@@ -1,0 +1,146 @@
+// The four rules of a step, on the words of one threshold's part (01, "The walk of one threshold").
+
+use crate::mass::mass_up;
+ghost use mathlib.Core.Path.{_≡_};
+ghost use mathlib.Core.Bool.{true};
+ghost use mathlib.Core.List.{_++_};
+ghost use Prim.Native.Nat.{_+_, _-_, _≤_, _<_};
+ghost use lib.ListN.{length, take, drop, replicate};
+ghost use Rattle.walk.specs.Numbers.{sum, allUpTo};
+ghost use Rattle.walk.specs.Units.{million, massLimit, wide};
+ghost use Rattle.walk.specs.Row.{newMasses, kept, dropped};
+ghost use Rattle.walk.specs.Record.{padded};
+
+// Where a boundary lies among the new masses, and the spent mass of its side then.
+pub struct Edge {
+    pub at: usize,
+    pub spent: u64,
+}
+
+// Where the new masses are cut at both ends, and both spent masses then.
+pub struct Cut {
+    pub hi: usize,
+    pub lo: usize,
+    pub over: u64,
+    pub under: u64,
+}
+
+// Rule 1, in place: n live masses become n + 1 new ones. For this crate only, as is every function here: `step` keeps what they require.
+pub fn spread(part: &mut [u64], n: usize, a: u32)
+    requires { ⌜ (n < length (now part)) × (a ≤ million) × (allUpTo massLimit (take n (now part)) ≡ true) ⌝ }
+    ensures { λ r. ⌜ now (part .exit) ≡ newMasses a (take n (now (part .entry))) ++ drop (n + 1) (now (part .entry)) ⌝ }
+{
+    let mut prev: u64 = 0;
+    let mut i = 0;
+    while i < n {
+        let x = part[i];
+        let m = mass_up(a, x, prev);
+        part[i] = m;
+        prev = x;
+        i += 1;
+    }
+    let m = mass_up(a, 0, prev);
+    part[n] = m;
+}
+
+// Rule 2: masses are taken off the top while they and the upper spent mass are at most e.
+pub fn find_upper(cs: &[u64], spent: u64, e: u64) -> Edge
+    requires { ⌜ spent ≤ e ⌝ }
+    ensures { λ r. ⌜ (r .at ≡ kept e spent (now (cs .entry))) × (r .spent ≡ spent + sum (drop (r .at) (now (cs .entry)))) ⌝ }
+{
+    let mut at = cs.len();
+    let mut taken = spent;
+    while at > 0 {
+        let highest = cs[at - 1];
+        if highest > e - taken {
+            return Edge {
+                at: at,
+                spent: taken,
+            };
+        }
+        taken += highest;
+        at -= 1;
+    }
+    Edge {
+        at: at,
+        spent: taken,
+    }
+}
+
+// Rule 3: masses are taken off the bottom while they and the lower spent mass are at most e.
+pub fn find_lower(cs: &[u64], spent: u64, e: u64) -> Edge
+    requires { ⌜ spent ≤ e ⌝ }
+    ensures { λ r. ⌜ (r .at ≡ dropped e spent (now (cs .entry))) × (r .spent ≡ spent + sum (take (r .at) (now (cs .entry)))) ⌝ }
+{
+    let mut at = 0;
+    let mut taken = spent;
+    while at < cs.len() {
+        let lowest = cs[at];
+        if lowest > e - taken {
+            return Edge {
+                at: at,
+                spent: taken,
+            };
+        }
+        taken += lowest;
+        at += 1;
+    }
+    Edge {
+        at: at,
+        spent: taken,
+    }
+}
+
+// The k words from lo on go to the front; most steps leave the lower boundary where it is, and copy nothing.
+pub fn shift_down(part: &mut [u64], lo: usize, k: usize)
+    requires { ⌜ lo + k ≤ length (now part) ⌝ }
+    ensures { λ r. ⌜ now (part .exit) ≡ take k (drop lo (now (part .entry))) ++ drop k (now (part .entry)) ⌝ }
+{
+    if lo == 0 {
+        return;
+    }
+    let mut i = 0;
+    while i < k {
+        let x = part[lo + i];
+        part[i] = x;
+        i += 1;
+    }
+}
+
+// Every word from k on becomes zero (01, "Words lent to a test").
+pub fn clear_from(part: &mut [u64], k: usize)
+    requires { ⌜ k ≤ length (now part) ⌝ }
+    ensures { λ r. ⌜ now (part .exit) ≡ take k (now (part .entry)) ++ replicate (length (now (part .entry)) - k) 0 ⌝ }
+{
+    let mut i = k;
+    while i < part.len() {
+        part[i] = 0;
+        i += 1;
+    }
+}
+
+// Rules 2 to 4 on the first m words: what lies between the boundaries moves to the front, and zeros follow.
+pub fn trim(part: &mut [u64], m: usize, over: u64, under: u64, e: u64) -> Cut
+    requires { ⌜ (length (now part) ≡ wide) × (m ≤ wide) × (over ≤ e) × (under ≤ e) × (e + e < sum (take m (now part)) + over + under) ⌝ }
+    ensures { λ r. ⌜
+        (r .hi ≡ kept e over (take m (now (part .entry))))
+        × (r .lo ≡ dropped e under (take m (now (part .entry))))
+        × (r .over ≡ over + sum (drop (r .hi) (take m (now (part .entry)))))
+        × (r .under ≡ under + sum (take (r .lo) (take m (now (part .entry)))))
+        × (now (part .exit) ≡ padded (take (r .hi - r .lo) (drop (r .lo) (take m (now (part .entry))))))
+        ⌝ }
+{
+    let top = find_upper(&part[..m], over, e);
+    let hi = top.at;
+    let bottom = find_lower(&part[..m], under, e);
+    let lo = bottom.at;
+    let k = hi - lo;
+    shift_down(part, lo, k);
+    clear_from(part, k);
+    Cut {
+        hi: hi,
+        lo: lo,
+        over: top.spent,
+        under: bottom.spent,
+    }
+}

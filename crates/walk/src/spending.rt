@@ -1,0 +1,16 @@
+// What a side of a threshold may have spent (01, "The walk of one threshold": spent allowance).
+
+ghost use mathlib.Core.Path.{_≡_};
+ghost use Prim.Native.Nat.{_≤_};
+ghost use Rattle.walk.specs.Units.{allowanceLimit, horizonLimit};
+ghost use Rattle.walk.specs.Spending.{spending};
+
+// E(n). For the crate above only, whose plans keep these bounds.
+pub fn spending_at(allowance: u64, delay: u32, n: u32) -> u64
+    requires { ⌜ (allowance ≤ allowanceLimit) × (1 ≤ delay) × (n ≤ horizonLimit) ⌝ }
+    ensures { λ r. ⌜ r ≡ spending allowance delay n ⌝ }
+{
+    let draws = n as u64;
+    let wait = delay as u64;
+    allowance * draws / (draws + wait)
+}

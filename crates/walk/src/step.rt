@@ -1,0 +1,52 @@
+// One step of a walk (01, "The walk of one threshold", step t).
+
+use crate::Walked;
+use crate::row::spread;
+use crate::row::trim;
+ghost use mathlib.Core.Path.{_≡_};
+ghost use Prim.Native.Nat.{suc, _+_, _≤_};
+ghost use Rattle.walk.specs.Units.{wide, horizonLimit};
+ghost use Rattle.walk.specs.Walk.{below};
+ghost use Rattle.walk.specs.Row.{stepRow};
+ghost use Rattle.walk.specs.Record.{firstAbove, rowOf, recordOf, padded};
+ghost use Rattle.walk.specs.Soundness.{Steppable};
+
+// The first live count: the lower boundary plus one. For this crate only.
+fn first_live(lower: i32) -> u32
+    requires { ⌜ (lower ≡ below (firstAbove lower)) × (firstAbove lower ≤ suc horizonLimit) ⌝ }
+    ensures { λ r. ⌜ r ≡ firstAbove lower ⌝ }
+{
+    (lower + 1) as u32
+}
+
+// The lower boundary after a step that drops so many counts. For this crate only.
+fn raised(lower: i32, by: usize) -> i32
+    requires { ⌜ (lower ≡ below (firstAbove lower)) × (firstAbove lower ≤ suc horizonLimit) × (by ≤ wide) ⌝ }
+    ensures { λ r. ⌜ r ≡ below (firstAbove lower + by) ⌝ }
+{
+    lower + by as i32
+}
+
+// One step of the walk of the threshold a, in place, with e to spend. For the crate above only, which steps a state that `is_sound` lets
+// through and that is not wide.
+pub fn step(part: &mut [u64], w: Walked, a: u32, e: u64) -> Walked
+    requires { ⌜ Steppable a e w (now part) ⌝ }
+    ensures { λ r. ⌜
+        (r ≡ recordOf (stepRow a e (rowOf w (now (part .entry)))))
+        × (now (part .exit) ≡ padded (stepRow a e (rowOf w (now (part .entry))) .masses))
+        ⌝ }
+{
+    let first = first_live(w.lower);
+    let n = (w.upper - first) as usize;
+    spread(part, n, a);
+    let m = n + 1;
+    let cut = trim(part, m, w.over, w.under, e);
+    let lower = raised(w.lower, cut.lo);
+    let upper = first + cut.hi as u32;
+    Walked {
+        lower: lower,
+        upper: upper,
+        over: cut.over,
+        under: cut.under,
+    }
+}
