@@ -15,7 +15,7 @@ use Rattle.walk.specs.Spending.{IsSpending}
 use Rattle.walk.specs.Mass.{massUp}
 use Rattle.walk.specs.Walk.{Walk, previous, cellwise, newMass, massFrom, massBelow, FitsUpper, FitsLower, upperBoundary, firstLive, start, absorbed, stepWalk, walk, firstAt, upperAt, Wide, NoWideBefore}
 use Rattle.walk.specs.Row.{Row, upper, byCount, startRow, cellsBy, newMasses, kept, dropped, cut, stepRow, rows, Sound, SoundAt}
-use Rattle.walk.specs.Facts.{Same}
+use Rattle.walk.specs.Facts.{asWalk, Same}
 use Rattle.walk.proofs.Tests.{test, Le?, le, gt, le?-complete, le?-fails, only-fails, only-holds, sum-cong, sum-le, sum-zero}
 use Rattle.walk.proofs.Lists.{sum-take-suc, sum-take-drop}
 use Rattle.walk.proofs.Rounding.{mass-none}
@@ -111,6 +111,19 @@ module _ (t f : ℕ) (xs : List ℕ) (fits : f + length xs ≤ suc t) where
 
 -- ---- rules 2 and 3
 
+-- both boundaries exist, where the spent masses are allowed
+pub upper-exists : (t e : ℕ) (g : ℕ → ℕ) (over : ℕ) → over ≤ e → Smallest (FitsUpper t e g over) 1 (1 + t) (upperBoundary t e g over)
+unfolding upperBoundary massFrom
+upper-exists t e g over h =
+    let none : massFrom t g (1 + t) ≡ 0 = sum-zero (suc t) (λ c. only (le? (1 + t) c) (g c)) (λ c l. only-fails (1 + t) c (g c) (omega arith)) in
+    found-up (λ j. massFrom t g j + over) e t 1 (omega (arith, none))
+
+pub lower-exists : (t e : ℕ) (g : ℕ → ℕ) (under : ℕ) → under ≤ e → Largest (FitsLower t e g under) 0 (suc t) (firstLive t e g under)
+unfolding firstLive massBelow
+lower-exists t e g under h =
+    let none : massBelow t g 0 ≡ 0 = sum-zero (suc t) (λ c. only (lt? c 0) (g c)) (λ c l. only-fails (suc c) 0 (g c) (omega arith)) in
+    found-down (λ f. massBelow t g f + under) e (suc t) (omega (arith, none))
+
 module _ (t e f : ℕ) (cs : List ℕ) (fits : f + length cs ≤ suc t) where
   pub upper-smallest : (over k : ℕ) → Keeps e over cs k → 0 < k → Smallest (FitsUpper t e (byCount f cs) over) 1 (1 + t) (f + k)
   upper-smallest over k keep some = record {
@@ -178,10 +191,6 @@ pub start-same : Same start startRow
 unfolding start startRow
 start-same = record { first-same = refl; upper-same = refl; mass-same = start-mass; over-same = refl; under-same = refl }
 
--- a row, by count
-unfoldable pub asWalk : Row → Walk
-asWalk r = record { first = r .first; upper = upper r; mass = byCount (r .first) (r .masses); over = r .over; under = r .under }
-
 pub same-as-walk : (w : Walk) (r : Row) → Same w r → w ≡ asWalk r
 unfolding asWalk
 same-as-walk w r s = λ i. record {
@@ -233,26 +242,10 @@ module _ (a : ℕ) (threshold : a ≤ million) (e : ℕ) (half : e + e < M) (n :
 
   -- the searches find them
   upper-found : upperBoundary (suc n) e g (r .over) ≡ r .first + k
-  unfolding upperBoundary massFrom
-  upper-found =
-      smallest-only
-      (found-up (λ j. massFrom (suc n) g j + r .over) e (suc n) 1 (omega (arith, s .over-fits, none-over)))
-      upper-is
-      ∙ step-upper a threshold e half r s
-    where
-      none-over : massFrom (suc n) g (1 + suc n) ≡ 0
-      none-over = sum-zero (suc (suc n)) (λ c. only (le? (1 + suc n) c) (g c)) (λ c l. only-fails (1 + suc n) c (g c) (omega arith))
+  upper-found = smallest-only (upper-exists (suc n) e g (r .over) (s .over-fits)) upper-is ∙ step-upper a threshold e half r s
 
   lower-found : firstLive (suc n) e g (r .under) ≡ r .first + d
-  unfolding firstLive massBelow
-  lower-found =
-      largest-only
-      (found-down (λ f. massBelow (suc n) g f + r .under) e (suc (suc n)) (omega (arith, s .under-fits, none-under)))
-      lower-is
-      ∙ step-first a threshold e half r s
-    where
-      none-under : massBelow (suc n) g 0 ≡ 0
-      none-under = sum-zero (suc (suc n)) (λ c. only (lt? c 0) (g c)) (λ c l. only-fails (suc c) 0 (g c) (omega arith))
+  lower-found = largest-only (lower-exists (suc n) e g (r .under) (s .under-fits)) lower-is ∙ step-first a threshold e half r s
 
   pub step-same : Same (stepWalk a e (suc n) (asWalk r)) (stepRow a e r)
   unfolding stepWalk absorbed asWalk stepRow cut

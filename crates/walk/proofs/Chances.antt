@@ -1,6 +1,6 @@
 -- The chance theorem: no mass is below its chance, and the spent masses exceed theirs by no more than was rounded. Assumes nothing.
 use mathlib.Core.Path.{_≡_, refl, ap, _∙_}
-use mathlib.Core.Bool.{true}
+use mathlib.Core.Bool.{Bool, true, false}
 use mathlib.Core.Logic.{_↔_}
 use Prim.Native.Nat.{ℕ, zero, suc, _+_, _*_, _-_, _^_, _≤_, _<_}
 use native.Mathlib.Nat.{sub-add-cancel, mul-le-mul-right, pow-suc, pow-zero, le-trans, le-of-lt}
@@ -12,14 +12,15 @@ use Rattle.walk.specs.Spending.{IsSpending}
 use Rattle.walk.specs.Mass.{reaching}
 use Rattle.walk.specs.Walk.{Walk, previous, newMass, massFrom, massBelow, start, absorbed, stepWalk, walk, firstAt, upperAt, NoWideBefore}
 use Rattle.walk.specs.Row.{Row, total, rows, roundedBy}
-use Rattle.walk.specs.Strings.{Draws, Side, Upper, Lower, verdict, mark, isOn, isOpen, chance}
+use Rattle.walk.specs.Strings.{Draws, weight, Side, Upper, Lower, verdict, mark, isOn, isOpen, chance}
 use Rattle.walk.specs.Facts.{massOf}
-use Rattle.walk.specs.Chance.{Meets, meeting, spent, Bounds, ChanceTheorem}
+use Rattle.walk.specs.Chance.{Meets, meeting, spent, Bounds, ChanceTheorem, AllowedTheorem}
 use Rattle.walk.proofs.Tests.{only-scale, sum-cong, sum-le, sum-mul}
 use Rattle.walk.proofs.Rounding.{mass-ge}
 use Rattle.walk.proofs.RowSteps.{rows-sound, rows-total, rounded-few}
 use Rattle.walk.proofs.Agreement.{at-total, same, first-at, upper-at, order, not-wide}
 use Rattle.walk.proofs.Exact.{shifted, exact, met, exact-suc, met-zero, met-suc, met-sum, whole, open-off, verdict-tests}
+use Rattle.walk.proofs.StringLaws.{strings-le}
 use Rattle.walk.proofs.Meeting.{mark-on}
 
 module _ (a : ℕ) (threshold : a ≤ million) (E : ℕ → ℕ) (spends : IsSpending E) where
@@ -162,3 +163,21 @@ chances a threshold E spends side n none =
     bounds-more E n (meeting a E side n) (spent side (walk a E n)) (roundedBy a E n) (wide * n)
     (rounded-few a threshold E spends n (not-wide a threshold E spends n .0 none))
     (chances-by-rounding a threshold E spends side n)
+
+-- a test that passes less weighs less
+chance-le : (x y n : ℕ) (f g : Draws → Bool) → ((s : Draws) → length s ≡ n → f s ≡ true → g s ≡ true) → chance x y n f ≤ chance x y n g
+unfolding chance
+chance-le x y n f g h = strings-le n _ _ (λ s l. go (f s) (g s) (weight x (y - x) s) (h s l))
+  where
+    go : (p q : Bool) (w : ℕ) → (p ≡ true → q ≡ true) → only p w ≤ only q w
+    go true q w i = rw (i refl) (omega arith)
+    go false q w i = omega arith
+
+pub allowed-always : AllowedTheorem
+unfolding meeting
+allowed-always a threshold E spends side n test picks =
+    le-trans
+    (mul-le-mul-right M (chance-le a million n test (λ s. isOn side (mark (firstAt a E) (upperAt a E) s)) (λ s l e.
+    let h = picks s l e in
+    mark-on (firstAt a E) (upperAt a E) (λ t. le-of-lt (order a threshold E spends t)) s side .1 (h .0, h .1 .meets))))
+    (chances-by-rounding a threshold E spends side n .allowed)

@@ -2,21 +2,42 @@
 use mathlib.Core.Path.{_≡_, refl, sym, ap, _∙_}
 use mathlib.Core.Logic.{_⊎_, inl, inr}
 use mathlib.Core.Bool.{Bool, true, false}
-use mathlib.Core.List.{List, [], _∷_}
-use Prim.Native.Nat.{ℕ, zero, suc, _+_, _≤_, _<_}
+use mathlib.Core.List.{List, [], _∷_, _++_}
+use Prim.Native.Nat.{ℕ, zero, suc, _+_, _-_, _≤_, _<_}
 use native.Mathlib.Nat.{eq-or-lt-of-le, le-of-lt}
 use native.Mathlib.Omega.{arith}
-use lib.ListN.{length, getD}
-use Rattle.walk.specs.Numbers.{le?, lt?}
+use lib.IntN.{pos}
+use lib.ListN.{length, getD, replicate}
+use lib.Signed.{leZ}
+use Rattle.walk.specs.Numbers.{le?, lt?, eqZ?}
 use Rattle.walk.specs.Units.{million, wide}
 use Rattle.walk.specs.Spending.{IsSpending}
-use Rattle.walk.specs.Walk.{start, walk, firstAt, upperAt, NoWideBefore}
+use Rattle.walk.specs.Walk.{below, lower, walk, firstAt, upperAt, NoWideBefore}
 use Rattle.walk.specs.Row.{Row, upper, startRow, stepRow, rows}
 use Rattle.walk.specs.Strings.{Draws, ones, judged, verdict, orElse, mark, isOpen}
+use Rattle.walk.specs.Record.{recordOf, isWide, padded}
 use Rattle.walk.specs.declared.Mark.the-variants.{Open, Above, AtMost}
 use Rattle.walk.specs.declared.Mark.{Mark}
 use Rattle.walk.proofs.Tests.{test, Le?, le, gt, clash}
+use Rattle.walk.proofs.Boundaries.{under-below}
 use Rattle.walk.proofs.Agreement.{at-add, same, first-at, upper-at, not-wide}
+
+-- step 0 is not wide
+pub start-not-wide : isWide (recordOf startRow) ≡ false
+unfolding isWide recordOf startRow below eqZ?
+start-not-wide = refl
+
+-- words after the live counts are zero
+pub padded-word : (masses : List ℕ) (j : ℕ) → getD (padded masses) j 0 ≡ getD masses j 0
+unfolding padded
+padded-word masses j = go masses (wide - length masses) j
+  where
+    go : (xs : List ℕ) (k j : ℕ) → getD (xs ++ replicate k 0) j 0 ≡ getD xs j 0
+    go [] zero j = refl
+    go [] (suc k) zero = refl
+    go [] (suc k) (suc j) = go [] k j
+    go (x ∷ xs) k zero = refl
+    go (x ∷ xs) k (suc j) = go xs k j
 
 module _ (a : ℕ) (E : ℕ → ℕ) where
   pub rows-zero : rows a E 0 ≡ startRow
@@ -52,6 +73,20 @@ module _ (a : ℕ) (E : ℕ → ℕ) where
     pub verdict-row : (t S : ℕ) → verdictOf t S ≡ judged t (le? (upper (rows a E t)) S) (lt? S (rows a E t .first))
     unfolding verdict
     verdict-row t S = rw (first-at a threshold E spends t, upper-at a threshold E spends t)
+
+    -- the same by the boundaries of a record
+    pub verdict-record : (t S : ℕ) → judged t (le? (recordOf (rows a E t) .upper) S) (leZ (pos S) (recordOf (rows a E t) .lower)) ≡ verdictOf t S
+    unfolding recordOf
+    verdict-record t S = rw (under-below S (rows a E t .first)) (sym (verdict-row t S))
+
+    -- the record of a row holds the walk's boundaries and spent masses
+    pub record-walk : (t : ℕ)
+        → (recordOf (rows a E t) .lower ≡ lower (walk a E t)) × (recordOf (rows a E t) .upper ≡ walk a E t .upper)
+        × (recordOf (rows a E t) .over ≡ walk a E t .over) × (recordOf (rows a E t) .under ≡ walk a E t .under)
+    unfolding recordOf lower
+    record-walk t =
+        let s = same a threshold E spends t in
+        (rw (s .first-same), sym (s .upper-same), sym (s .over-same), sym (s .under-same))
 
     -- an open mark: the ones lie strictly between the boundaries
     inside : (t S : ℕ) → verdictOf t S ≡ Open → (rows a E t .first ≤ S) × (S < upper (rows a E t))

@@ -6,17 +6,18 @@ use lib.Dec.{le→leb}
 use lib.IntN.{ℤ, pos, _-ℤ_}
 use lib.ListN.{getD}
 use lib.Signed.{_≤ℤ_, leZ-yes}
-use Rattle.walk.specs.Numbers.{le?, only}
+use Rattle.walk.specs.Numbers.{le?, only, Smallest, Largest}
 use Rattle.walk.specs.Units.{M, million, wide}
 use Rattle.walk.specs.Spending.{IsSpending}
-use Rattle.walk.specs.Walk.{below, lower, walk}
+use Rattle.walk.specs.Walk.{below, lower, newMass, FitsUpper, FitsLower, absorbed, stepWalk, walk}
 use Rattle.walk.specs.Row.{byCount, rows}
+use Rattle.walk.specs.Strings.{Upper, Lower}
 use Rattle.walk.specs.Facts.{StepTheorem, WalkFacts, WalkTheorem}
 use Rattle.walk.proofs.Tests.{only-le}
 use Rattle.walk.proofs.Lists.{all-getD}
 use Rattle.walk.proofs.Boundaries.{below-rises, apart-below}
 use Rattle.walk.proofs.RowSteps.{allowed-next, next-moves, next-sound, rows-sound, rows-move, rows-total, rows-small, rounded-few}
-use Rattle.walk.proofs.Agreement.{upper-is, lower-is, same, not-wide}
+use Rattle.walk.proofs.Agreement.{upper-exists, lower-exists, upper-is, lower-is, step-same, same, not-wide}
 use Rattle.walk.proofs.Chances.{walk-total, spent-fits}
 
 pub step-facts : StepTheorem
@@ -26,11 +27,23 @@ step-facts a threshold E spends n r s =
       record {
         upper-is = upper-is a threshold (E (suc n)) half n r allowed (s .top);
         lower-is = lower-is a threshold (E (suc n)) half n r allowed (s .top);
+        same = step-same a threshold (E (suc n)) half n r allowed (s .top);
         sound = next-sound a threshold E spends n r s .sound;
         moves = next-moves a threshold E spends n r s;
       },
       next-sound a threshold E spends n r s,
     )
+
+-- the boundaries of the next step of the walk
+upper-next : (a : ℕ) (E : ℕ → ℕ) (n : ℕ) → walk a E n .over ≤ E (suc n)
+    → Smallest (FitsUpper (suc n) (E (suc n)) (newMass a (walk a E n .mass)) (walk a E n .over)) 1 (1 + suc n) (walk a E (suc n) .upper)
+unfolding walk stepWalk absorbed
+upper-next a E n h = upper-exists (suc n) (E (suc n)) (newMass a (walk a E n .mass)) (walk a E n .over) h
+
+lower-next : (a : ℕ) (E : ℕ → ℕ) (n : ℕ) → walk a E n .under ≤ E (suc n)
+    → Largest (FitsLower (suc n) (E (suc n)) (newMass a (walk a E n .mass)) (walk a E n .under)) 0 (suc (suc n)) (walk a E (suc n) .first)
+unfolding walk stepWalk absorbed
+lower-next a E n h = lower-exists (suc n) (E (suc n)) (newMass a (walk a E n .mass)) (walk a E n .under) h
 
 far-enough : (u f : ℕ) → f < u → pos 2 ≤ℤ (pos u -ℤ below f)
 far-enough u f h = rw (apart-below u f (omega arith)) (leZ-yes (le→leb 2 (suc (u - f)) (omega arith)))
@@ -44,6 +57,8 @@ walk-facts a threshold E spends n =
     let r = rows-sound a threshold E spends n in
     record {
       same = s;
+      upper-is = upper-next a E n (omega (arith, spent-fits a threshold E spends Upper n, spends .rises n));
+      lower-is = lower-next a E n (omega (arith, spent-fits a threshold E spends Lower n, spends .rises n));
       apart = far-enough (walk a E n .upper) (walk a E n .first) (omega (arith, s .first-same, s .upper-same, r .sound .live));
       top = omega (arith, s .upper-same, r .top);
       upper-slow = omega (arith, s .upper-same, s′ .upper-same, m .upper-slow);

@@ -1,5 +1,8 @@
 -- What is claimed of the chances of one walk: the part of demand 3 that speaks of all strings.
+use mathlib.Core.Path.{_≡_}
+use mathlib.Core.Bool.{Bool, true}
 use Prim.Native.Nat.{ℕ, _+_, _*_, _^_, _≤_}
+use lib.ListN.{length}
 use Rattle.walk.specs.Units.{M, million, wide}
 use Rattle.walk.specs.Spending.{IsSpending}
 use Rattle.walk.specs.Walk.{Walk, walk, firstAt, upperAt, NoWideBefore}
@@ -11,7 +14,8 @@ module _ (a : ℕ) (E : ℕ → ℕ) where
     pub meets : MeetsFirst (firstAt a E) (upperAt a E) side t s
     pub not-past : NoWideBefore a E t
 
-  -- W: the summed weights of the strings of n draws that meet the side's boundary by step n, where a draw is 1 with the chance a
+  -- W: the summed weights of the strings of n draws that meet the side's boundary by step n, where a draw is 1 with the chance a; for n up
+  -- to the first wide step (proofs/Chances, `meeting-counts`)
   unfoldable pub meeting : Side → ℕ → ℕ
   meeting side n = chance a million n (λ s. isOn side (mark (firstAt a E) (upperAt a E) s))
 
@@ -31,3 +35,11 @@ abbrev pub ChanceTheorem : Type 0
 ChanceTheorem =
     (a : ℕ) → a ≤ million → (E : ℕ → ℕ) → IsSpending E → (side : Side) (n : ℕ) → NoWideBefore a E n
     → Bounds E n (meeting a E side n) (spent side (walk a E n)) (wide * n)
+
+-- past the first wide step too, from n = 0 on: strings of n draws that meet the side's boundary at a step not past the first wide one have
+-- no more weight than E(n) allows, whichever of them a test picks
+abbrev pub AllowedTheorem : Type 0
+AllowedTheorem =
+    (a : ℕ) → a ≤ million → (E : ℕ → ℕ) → IsSpending E → (side : Side) (n : ℕ) (test : Draws → Bool)
+    → ((s : Draws) → length s ≡ n → test s ≡ true → (t : ℕ) × Meets a E side t s)
+    → chance a million n test * M ≤ E n * million ^ n

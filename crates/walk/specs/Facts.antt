@@ -8,10 +8,22 @@ use lib.Signed.{_≤ℤ_}
 use Rattle.walk.specs.Numbers.{Smallest, Largest, sumTo, allUpTo}
 use Rattle.walk.specs.Units.{M, million, wide}
 use Rattle.walk.specs.Spending.{IsSpending}
-use Rattle.walk.specs.Walk.{Walk, lower, newMass, FitsUpper, FitsLower, walk, NoWideBefore}
+use Rattle.walk.specs.Walk.{Walk, lower, newMass, FitsUpper, FitsLower, stepWalk, walk, NoWideBefore}
 use Rattle.walk.specs.Row.{Row, upper, total, byCount, roundings, stepRow, rows, Sound, SoundAt}
 use Rattle.walk.specs.Strings.{Side}
 use Rattle.walk.specs.Chance.{spent}
+
+-- a row, by count
+unfoldable pub asWalk : Row → Walk
+asWalk r = record { first = r .first; upper = upper r; mass = byCount (r .first) (r .masses); over = r .over; under = r .under }
+
+-- the two forms of a walk, by count and by row, are the same
+pub record Same (w : Walk) (r : Row) : Type 0 where
+  pub first-same : w .first ≡ r .first
+  pub upper-same : w .upper ≡ upper r
+  pub mass-same : (c : ℕ) → w .mass c ≡ byCount (r .first) (r .masses) c
+  pub over-same : w .over ≡ r .over
+  pub under-same : w .under ≡ r .under
 
 -- ---- one step, with e to spend
 
@@ -30,6 +42,8 @@ pub record StepFacts (a e n : ℕ) (r : Row) : Type 0 where
   -- both boundaries exist: they are those of rules 2 and 3, and no other number is (proofs/Searches)
   pub upper-is : Smallest (FitsUpper (suc n) e (newMass a (byCount (r .first) (r .masses))) (r .over)) 1 (1 + suc n) (upper (stepRow a e r))
   pub lower-is : Largest (FitsLower (suc n) e (newMass a (byCount (r .first) (r .masses))) (r .under)) 0 (suc (suc n)) (stepRow a e r .first)
+  -- it is the step of 01, masses and spent masses too
+  pub same : Same (stepWalk a e (suc n) (asWalk r)) (stepRow a e r)
   -- a live count is left, each spent mass is at most e, and no mass is lost
   pub sound : Sound e (stepRow a e r)
   pub moves : Moves a r (stepRow a e r)
@@ -42,14 +56,6 @@ StepTheorem =
 
 -- ---- the walk
 
--- the two forms of a walk, by count and by row, are the same
-pub record Same (w : Walk) (r : Row) : Type 0 where
-  pub first-same : w .first ≡ r .first
-  pub upper-same : w .upper ≡ upper r
-  pub mass-same : (c : ℕ) → w .mass c ≡ byCount (r .first) (r .masses) c
-  pub over-same : w .over ≡ r .over
-  pub under-same : w .under ≡ r .under
-
 -- live mass plus both spent masses after n steps
 abbrev pub massOf : ℕ → Walk → ℕ
 massOf n w = sumTo (suc n) (w .mass) + w .over + w .under
@@ -57,6 +63,9 @@ massOf n w = sumTo (suc n) (w .mass) + w .over + w .under
 -- after step n
 pub record WalkFacts (a : ℕ) (E : ℕ → ℕ) (n : ℕ) : Type 0 where
   pub same : Same (walk a E n) (rows a E n)
+  -- both boundaries of the next step exist
+  pub upper-is : Smallest (FitsUpper (suc n) (E (suc n)) (newMass a (walk a E n .mass)) (walk a E n .over)) 1 (1 + suc n) (walk a E (suc n) .upper)
+  pub lower-is : Largest (FitsLower (suc n) (E (suc n)) (newMass a (walk a E n .mass)) (walk a E n .under)) 0 (suc (suc n)) (walk a E (suc n) .first)
   pub apart : pos 2 ≤ℤ (pos (walk a E n .upper) -ℤ lower (walk a E n))
   pub top : walk a E n .upper ≤ suc n
   pub upper-slow : walk a E (suc n) .upper ≤ suc (walk a E n .upper)
