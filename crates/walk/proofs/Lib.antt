@@ -1,21 +1,26 @@
+-- Numbers, lists and signed numbers.
 pub mod Tests
 pub mod Lists
-pub mod Rounding
-pub mod Cells
-pub mod Cuts
-pub mod RowSteps
 pub mod Searches
+pub mod Boundaries
+pub mod Signed
+-- One mass, the cells of a row, where they are cut, one step, and the walk's rows.
+mod Rounding
+mod Cells
+mod Cuts
+pub mod RowSteps
+-- The two forms of the walk agree.
 pub mod Agreement
 pub mod SpendingLaws
+-- Strings, exact weights, first meetings, and the chance theorem.
 pub mod StringLaws
 pub mod Exact
 pub mod Meeting
 pub mod Chances
-mod Trials
-pub mod Boundaries
 pub mod WalkFacts
+-- What the crate above cites of records and checks.
 pub mod Checks
 pub mod Seams
-pub mod Loops
-pub mod Signed
-pub mod Parts
+-- What the loops of the code leave to do.
+mod Loops
+mod Parts

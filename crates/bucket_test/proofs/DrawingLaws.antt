@@ -1,0 +1,227 @@
+-- What a draw that nothing refuses may do, and each way out of a beginning, a draw and a run of draws, in plain variables. Assumes
+-- nothing.
+use mathlib.Core.Path.{_≡_, refl, sym, ap, _∙_}
+use mathlib.Core.Bool.{true, false, _&&_}
+use mathlib.Core.List.{List, _∷_}
+use Prim.Native.Nat.{ℕ, zero, suc, _+_, _*_, _≤_, _<_}
+use native.Mathlib.Numerals.{add-one}
+use native.Mathlib.Omega.{arith}
+use borrow.Author.Tests.{eqb-false}
+use lib.ListN.{length, drop, getD, drop-of-length-le}
+use lib.Seq.{drop-cons}
+use Rattle.walk.specs.Numbers.{le?, lt?}
+use Rattle.walk.specs.Units.{million, wide, horizonLimit}
+use Rattle.walk.specs.Spending.{IsSpending}
+use Rattle.walk.specs.Strings.{isOpen}
+use Rattle.walk.specs.Record.{rowOf, recordOf, isWide}
+use Rattle.walk.specs.Soundness.{isSound}
+use Rattle.walk.specs.declared.Mark.{Mark}
+use Rattle.walk.specs.declared.Mark.the-variants.{Open, Above, AtMost}
+use Rattle.walk.specs.declared.Walked.{Walked}
+use Rattle.walk.proofs.Tests.{and-true, le?-sound, le?-complete, le?-fails}
+use Rattle.walk.proofs.Checks.{wide-record, checked, steppable}
+use Rattle.bucket_test.specs.Tests.{eq?, overTo, joinTo}
+use Rattle.bucket_test.specs.Plan.{thresholdAt, spendingOf, planRefusal, Accepted}
+use Rattle.bucket_test.specs.Words.{partAt, wordsFit}
+use Rattle.bucket_test.specs.Turn.{recordAt, turnRecord, turnPart, MayTurn, recordSound}
+use Rattle.bucket_test.specs.Answers.{lowOf, highOf, anyWide, firstBucket, answerBy, answerOf, isEnding, goesOn}
+use Rattle.bucket_test.specs.Draw.{Outcome, drawnOf, startState, startWords, noState, beginRefusal, begunBy, begun, stateSound, drawRefusal, nextState, nextWords, drawnBy, drawn, report, drawnAll}
+use Rattle.bucket_test.specs.declared.Threshold.{Threshold}
+use Rattle.bucket_test.specs.declared.State.{State}
+use Rattle.bucket_test.specs.declared.Plan.{Plan}
+use Rattle.bucket_test.specs.declared.Report.{Report}
+use Rattle.bucket_test.specs.declared.Drawn.{Drawn}
+use Rattle.bucket_test.specs.declared.Answer.the-variants.{Refused}
+use Rattle.bucket_test.proofs.PlaceLaws.{eq?-complete, eq?-fails, all-reads, none-reads}
+use Rattle.bucket_test.proofs.Rules.{accepted, threshold-ok, spends}
+use Rattle.bucket_test.proofs.Invariant.{goes-on}
+use Rattle.bucket_test.proofs.TurningLaws.{part-length}
+
+-- ---- a threshold that refusal 11 lets through and that is not wide may have its turn
+
+module _ (E : ℕ → ℕ) (n s : ℕ) (w : Walked) (words : List ℕ) (size : length words ≡ wide) (sound : isSound (E n) n s w words ≡ true) where
+  same-walked : recordOf (rowOf w words) ≡ w
+  unfolding recordOf rowOf
+  same-walked =
+      let c = checked E n s w words size sound in
+      λ i. record { lower = sym (c .signed) i; upper = sym (c .upper-is) i; over = w .over; under = w .under }
+
+  narrow : isWide w ≡ false → length (rowOf w words .masses) < wide
+  unfolding wide
+  narrow h =
+      let c = checked E n s w words size sound in
+      let d = eqb-false (suc (length (rowOf w words .masses))) 770 (sym (wide-record (rowOf w words)) ∙ ap isWide same-walked ∙ h) in
+      omega (arith, c .fits, d)
+
+may-turn-by : (E : ℕ → ℕ) (n S a : ℕ) → a ≤ million → IsSpending E → n < horizonLimit
+    → (t : Threshold) (part : List ℕ) → length part ≡ wide
+    → (m : Mark) → recordSound (E n) n S m t part ≡ true → (isOpen m && isWide (t .walked)) ≡ false → MayTurn a (E (suc n)) m t part
+may-turn-by E n S a threshold spends early t part size Open sound thin =
+    steppable E n S (t .walked) part size a threshold spends early (narrow E n S (t .walked) part size sound thin) sound
+may-turn-by E n S a threshold spends early t part size (Above u) sound thin = tt
+may-turn-by E n S a threshold spends early t part size (AtMost u) sound thin = tt
+
+-- ---- a draw that nothing refuses
+
+module _ (p : Plan) (s : State) (ws : List ℕ) (good : planRefusal p ≡ 0) (fits : length ws ≡ wide * p .count)
+    (open-yet : isEnding (answerOf p s) ≡ false) (sound : stateSound p s ws ≡ true) where
+  ok : Accepted p
+  ok = accepted p .0 good
+
+  not-over : (anyWide p s ≡ false) × (eq? (s .n) (p .horizon) ≡ false)
+  unfolding answerOf answerBy
+  not-over =
+      goes-on (lt? (highOf p s) (lowOf p s)) (lt? (firstBucket p (lowOf p s) (highOf p s)) (p .buckets)) (firstBucket p (lowOf p s) (highOf p s))
+      (anyWide p s) (eq? (s .n) (p .horizon)) open-yet
+
+  -- the tests of refusal 11
+  in-time : s .n ≤ p .horizon
+  unfolding stateSound
+  in-time = le?-sound (s .n) (p .horizon) (and-true (le? (s .n) (p .horizon)) _ sound .0)
+
+  pub ones-fit : s .ones ≤ s .n
+  unfolding stateSound
+  ones-fit = le?-sound (s .ones) (s .n) (and-true (le? (s .ones) (s .n)) _ (and-true (le? (s .n) (p .horizon)) _ sound .1) .0)
+
+  sound-at : (i : ℕ) → i < p .count → recordSound (spendingOf p i (s .n)) (s .n) (s .ones) (recordAt s i .mark) (recordAt s i) (partAt i ws) ≡ true
+  unfolding stateSound
+  sound-at = all-reads _ (p .count) .0 (and-true (le? (s .ones) (s .n)) _ (and-true (le? (s .n) (p .horizon)) _ sound .1) .1)
+
+  pub early : s .n < horizonLimit
+  unfolding eq?
+  early = omega (arith, in-time, eqb-false (s .n) (p .horizon) (not-over .1), ok .horizon-range)
+
+  pub all-may-turn : (i : ℕ) → i < p .count
+      → MayTurn (thresholdAt p i) (spendingOf p i (suc (s .n))) (recordAt s i .mark) (recordAt s i) (partAt i ws)
+  unfolding anyWide
+  all-may-turn i l =
+      may-turn-by (spendingOf p i) (s .n) (s .ones) (thresholdAt p i) (threshold-ok p ok i l) (spends p ok i l) early
+      (recordAt s i) (partAt i ws) (part-length ws (p .count) i fits l) (recordAt s i .mark) (sound-at i l)
+      (none-reads (λ i. isOpen (recordAt s i .mark) && isWide (recordAt s i .walked)) (p .count) .0 (not-over .0) i l)
+
+-- the state and the words after the turns of all, of which n is the draw
+module _ (p : Plan) (s : State) (ws : List ℕ) (d n : ℕ) (n-is : n ≡ suc (s .n)) where
+  pub next-state : (rs : List Threshold)
+      → rs ≡ overTo (p .count) (λ i t. turnRecord (thresholdAt p i) (spendingOf p i n) n (s .ones + d) (t .mark) t (partAt i ws)) (s .records)
+      → record { n = n; ones = s .ones + d; records = rs } ≡ nextState p s ws d
+  unfolding nextState
+  next-state rs e = rw (e, n-is)
+
+  pub next-words : (out : List ℕ)
+      → out ≡ joinTo (p .count) (λ i. turnPart (thresholdAt p i) (spendingOf p i n) n (s .ones + d) (recordAt s i .mark) (recordAt s i) (partAt i ws))
+      → out ≡ nextWords p s ws d
+  unfolding nextWords
+  next-words out e = rw (e, n-is)
+
+-- ---- what code that was handed a plan and words has shown
+
+-- an accepted plan keeps the places inside the arrays
+pub places : (p : Plan) → planRefusal p ≡ 0 → (p .count ≤ 10) × (p .buckets ≤ 16)
+places p good = let ok = accepted p .0 good in (ok .count-range .1, ok .buckets-range .1)
+
+-- an answer and words that are those of an outcome
+pub hands : {o o′ : Outcome} → o ≡ o′ → {r : Drawn} {ws : List ℕ} → r ≡ drawnOf o′ → ws ≡ o′ .words → (r ≡ drawnOf o) × (ws ≡ o .words)
+hands e p q = (p ∙ ap drawnOf (sym e), q ∙ ap (λ (o : Outcome). o .words) (sym e))
+
+module _ (p : Plan) (ws : List ℕ) where
+  pub words-fit : length ws ≡ wide * p .count → wordsFit p ws ≡ true
+  unfolding wordsFit
+  words-fit e = eq?-complete (length ws) (wide * p .count) e
+
+  pub words-do-not : ¬ (length ws ≡ wide * p .count) → wordsFit p ws ≡ false
+  unfolding wordsFit
+  words-do-not e = eq?-fails (length ws) (wide * p .count) e
+
+  -- ---- the ways out of a beginning
+
+  begun-by : (r : ℕ) → beginRefusal p ws ≡ r → begun p ws ≡ begunBy r p ws
+  unfolding begun
+  begun-by r e = rw e
+
+  pub begun-plan : (r : ℕ) → r ≡ planRefusal p → 0 < r → begun p ws ≡ record { answer = Refused r; state = noState; words = ws }
+  unfolding beginRefusal
+  begun-plan zero e h = absurd (omega arith)
+  begun-plan (suc r) e h = begun-by (suc r) (rw (← e))
+
+  module _ (good : planRefusal p ≡ 0) where
+    pub begun-8 : wordsFit p ws ≡ false → begun p ws ≡ record { answer = Refused 8; state = noState; words = ws }
+    unfolding beginRefusal
+    begun-8 h = begun-by 8 (rw (good, h))
+
+    pub begun-0 : wordsFit p ws ≡ true → begun p ws ≡ record { answer = answerOf p startState; state = startState; words = startWords p }
+    unfolding beginRefusal
+    begun-0 h = begun-by 0 (rw (good, h))
+
+-- ---- the ways out of a draw
+
+module _ (p : Plan) (s : State) (ws : List ℕ) (d : ℕ) where
+  drawn-by : (r : ℕ) → drawRefusal p s ws d ≡ r → drawn p s ws d ≡ drawnBy r p s ws d
+  unfolding drawn
+  drawn-by r e = rw e
+
+  abbrev pub Refuses : ℕ → Type 0
+  Refuses r = drawn p s ws d ≡ record { answer = Refused r; state = s; words = ws }
+
+  pub drawn-plan : (r : ℕ) → r ≡ planRefusal p → 0 < r → Refuses r
+  unfolding drawRefusal
+  drawn-plan zero e h = absurd (omega arith)
+  drawn-plan (suc r) e h = drawn-by (suc r) (rw (← e))
+
+  module _ (good : planRefusal p ≡ 0) where
+    pub drawn-8 : wordsFit p ws ≡ false → Refuses 8
+    unfolding drawRefusal
+    drawn-8 h = drawn-by 8 (rw (good, h))
+
+    module _ (fits : wordsFit p ws ≡ true) where
+      pub drawn-9 : 1 < d → Refuses 9
+      unfolding drawRefusal
+      drawn-9 h = drawn-by 9 (rw (good, fits, le?-fails d 1 h))
+
+      module _ (bit : d ≤ 1) where
+        pub drawn-10 : isEnding (answerOf p s) ≡ true → Refuses 10
+        unfolding drawRefusal
+        drawn-10 h = drawn-by 10 (rw (good, fits, le?-complete d 1 bit, h))
+
+        module _ (open-yet : isEnding (answerOf p s) ≡ false) where
+          pub drawn-11 : stateSound p s ws ≡ false → Refuses 11
+          unfolding drawRefusal
+          drawn-11 h = drawn-by 11 (rw (good, fits, le?-complete d 1 bit, open-yet, h))
+
+          pub drawn-0 : stateSound p s ws ≡ true
+              → drawn p s ws d ≡ record { answer = answerOf p (nextState p s ws d); state = nextState p s ws d; words = nextWords p s ws d }
+          unfolding drawRefusal
+          drawn-0 h = drawn-by 0 (rw (good, fits, le?-complete d 1 bit, open-yet, h))
+
+-- ---- the answer to a state
+
+module _ (p : Plan) (s : State) where
+  pub report-plan : (r : ℕ) → r ≡ planRefusal p → 0 < r → report p s ≡ record { answer = Refused r; low = 0; high = 0 }
+  unfolding report
+  report-plan zero e h = absurd (omega arith)
+  report-plan (suc r) e h = rw (← e)
+
+  pub report-0 : planRefusal p ≡ 0 → report p s ≡ record { answer = answerOf p s; low = lowOf p s; high = highOf p s }
+  unfolding report
+  report-0 e = rw e
+
+-- ---- a run of draws ds from place i on, which is what the whole run is
+
+module _ (p : Plan) (s : State) (ws ds : List ℕ) (i : ℕ) (whole : Outcome) (is : drawnAll p s ws (drop i ds) ≡ whole) where
+  pub run-end : length ds ≤ i → (a : Report) → a ≡ report p s → (record { answer = a .answer; state = s } ≡ drawnOf whole) × (ws ≡ whole .words)
+  unfolding drawnAll
+  run-end h a e = hands (sym is ∙ ap (drawnAll p s ws) (drop-of-length-le ds {i = i} h)) (rw e) refl
+
+  module _ (l : i < length ds) (r : Drawn) (ws′ : List ℕ) (r-is : r ≡ drawnOf (drawn p s ws (getD ds i 0))) (ws-is : ws′ ≡ drawn p s ws (getD ds i 0) .words) where
+    here : whole ≡ drawnAll p s ws (getD ds i 0 ∷ drop (suc i) ds)
+    here = sym is ∙ ap (drawnAll p s ws) (drop-cons ds i 0 l)
+
+    answer-is : goesOn (r .answer) ≡ goesOn (drawn p s ws (getD ds i 0) .answer)
+    answer-is = ap (λ (x : Drawn). goesOn (x .answer)) r-is
+
+    pub run-on : goesOn (r .answer) ≡ true → drawnAll p (r .state) ws′ (drop (i + 1) ds) ≡ whole
+    unfolding drawnAll
+    run-on h = rw (here, ← answer-is, h, r-is, ws-is, add-one i)
+
+    pub run-stops : goesOn (r .answer) ≡ false → (r ≡ drawnOf whole) × (ws′ ≡ whole .words)
+    unfolding drawnAll
+    run-stops h = hands (here ∙ rw (← answer-is, h)) r-is ws-is

@@ -1,0 +1,157 @@
+-- One threshold of a carried test: its record and its part after the draws taken are what its walk and the string say, and one turn
+-- takes them one draw on. Cites laws of `walk` about boundaries and masses only. Assumes nothing.
+use mathlib.Core.Path.{_≡_, refl, sym, ap, _∙_}
+use mathlib.Core.Logic.{_↔_}
+use mathlib.Core.Bool.{Bool, true, false}
+use mathlib.Core.List.{List, [], _∷_, _++_}
+use Prim.Native.Nat.{ℕ, zero, suc, _+_, _-_, _≤_, _<_}
+use native.Mathlib.Omega.{arith}
+use lib.ListN.{length, getD, replicate}
+use Rattle.walk.specs.Numbers.{le?, lt?}
+use Rattle.walk.specs.Units.{million, wide}
+use Rattle.walk.specs.Spending.{IsSpending}
+use Rattle.walk.specs.Walk.{lower, walk, firstAt, upperAt, NoWideBefore}
+use Rattle.walk.specs.Row.{Row, upper, startRow, stepRow, rows}
+use Rattle.walk.specs.Strings.{Draws, ones, Side, Upper, Lower, judged, orElse, settled}
+use Rattle.walk.specs.Chance.{Meets}
+use Rattle.walk.specs.Record.{recordOf, padded}
+use Rattle.walk.specs.Soundness.{isSound}
+use Rattle.walk.specs.declared.Mark.{Mark}
+use Rattle.walk.specs.declared.Mark.the-variants.{Open, Above, AtMost}
+use Rattle.walk.specs.declared.Walked.{Walked}
+use Rattle.walk.proofs.Tests.{le?-complete}
+use Rattle.walk.proofs.RowSteps.{rows-fit}
+use Rattle.walk.proofs.Agreement.{order, not-wide}
+use Rattle.walk.proofs.Meeting.{mark-meets, mark-open}
+use Rattle.walk.proofs.Checks.{padded-length, row-back, walk-passes}
+use Rattle.walk.proofs.Seams.{rows-zero, rows-suc, markOf, verdictOf, mark-nil, mark-cons, verdict-row, verdict-record, record-walk, padded-word, open-inside, narrow-next, mass-word}
+use Rattle.bucket_test.specs.Tests.{within}
+use Rattle.bucket_test.specs.Turn.{startRecord, marked, walkedOn, turnRecord, turnPart, recordSound}
+use Rattle.bucket_test.specs.Demand3.{Marks, Stands, lastStep}
+use Rattle.bucket_test.specs.declared.Threshold.{Threshold}
+
+module _ (a : ℕ) (E : ℕ → ℕ) where
+  -- the row of the last step walked, with the mark m after n draws; the record and the part that hold it
+  abbrev pub rowAt : Mark → ℕ → Row
+  rowAt m n = rows a E (lastStep m n)
+
+  unfoldable pub recordFor : Mark → ℕ → Threshold
+  recordFor m n = record { mark = m; walked = recordOf (rowAt m n) }
+
+  unfoldable pub partFor : Mark → ℕ → List ℕ
+  partFor m n = padded (rowAt m n .masses)
+
+  pub mark-for : (m : Mark) (n : ℕ) → recordFor m n .mark ≡ m
+  unfolding recordFor
+  mark-for m n = refl
+
+  pub start-for : (recordFor Open 0 ≡ startRecord) × (partFor Open 0 ≡ padded (startRow .masses))
+  unfolding recordFor partFor startRecord
+  start-for = (ap (λ (r : Row). record { mark = Open; walked = recordOf r }) (rows-zero a E), ap (λ (r : Row). padded (r .masses)) (rows-zero a E))
+
+  module _ (threshold : a ≤ million) (spends : IsSpending E) where
+    -- ---- one turn
+
+    last-verdict : (t : ℕ) (o u : Bool) → lastStep (judged t o u) t ≡ t
+    last-verdict t true u = refl
+    last-verdict t false true = refl
+    last-verdict t false false = refl
+
+    verdict-last : (t S : ℕ) → lastStep (verdictOf a E t S) t ≡ t
+    verdict-last t S = rw (verdict-row a E threshold spends t S) (last-verdict t (le? (upper (rows a E t)) S) (lt? S (rows a E t .first)))
+
+    marked-is : (t S : ℕ) → marked t S (recordOf (rows a E t)) ≡ verdictOf a E t S
+    unfolding marked
+    marked-is t S = verdict-record a E threshold spends t S
+
+    pub turn-record : (n S : ℕ) (m : Mark)
+        → turnRecord a (E (suc n)) (suc n) S m (recordFor m n) (partFor m n) ≡ recordFor (orElse m (verdictOf a E (suc n) S)) (suc n)
+    unfolding recordFor partFor walkedOn
+    turn-record n S Open =
+        rw (row-back (rows a E n), ← (rows-suc a E n), marked-is (suc n) S, verdict-last (suc n) S)
+    turn-record n S (Above t) = refl
+    turn-record n S (AtMost t) = refl
+
+    pub turn-part : (n S : ℕ) (m : Mark)
+        → turnPart a (E (suc n)) (suc n) S m (recordFor m n) (partFor m n) ≡ partFor (orElse m (verdictOf a E (suc n) S)) (suc n)
+    unfolding recordFor partFor
+    turn-part n S Open = rw (row-back (rows a E n), ← (rows-suc a E n), verdict-last (suc n) S)
+    turn-part n S (Above t) = refl
+    turn-part n S (AtMost t) = refl
+
+    -- ---- what record and part say of the draws s
+
+    last-settled : (side : Side) (t n : ℕ) → lastStep (settled side t) n ≡ t
+    last-settled Upper t n = refl
+    last-settled Lower t n = refl
+
+    orders : (t : ℕ) → firstAt a E t ≤ upperAt a E t
+    orders t = omega (arith, order a threshold E spends t)
+
+    module _ (s : Draws) (none : NoWideBefore a E (lastStep (markOf a E s) (length s))) where
+      not-past : (side : Side) (t : ℕ) → markOf a E s ≡ settled side t → NoWideBefore a E t
+      not-past side t e = rw (e, last-settled side t (length s)) at none
+
+      pub marks-say : Marks a E s (markOf a E s)
+      marks-say = record {
+        settles = λ side t. (
+          λ e. record { meets = mark-meets (firstAt a E) (upperAt a E) orders s side t .0 e; not-past = not-past side t e },
+          λ h. mark-meets (firstAt a E) (upperAt a E) orders s side t .1 (h .meets),
+        );
+        else-open = (
+          λ e side t h. mark-open (firstAt a E) (upperAt a E) orders s .0 e side t (h .meets),
+          λ never. mark-open (firstAt a E) (upperAt a E) orders s .1 (λ side t h.
+              never side t (record { meets = h; not-past = not-past side t (mark-meets (firstAt a E) (upperAt a E) orders s side t .1 h) })),
+        );
+      }
+
+      pub part-size : length (partFor (markOf a E s) (length s)) ≡ wide
+      unfolding partFor
+      part-size =
+          padded-length (rowAt (markOf a E s) (length s) .masses)
+          (rows-fit a threshold E spends (lastStep (markOf a E s) (length s)) (not-wide a threshold E spends (lastStep (markOf a E s) (length s)) .0 none))
+
+      -- refusal 11 lets it through
+      sound-by : (m : Mark) → markOf a E s ≡ m → NoWideBefore a E (lastStep m (length s))
+          → recordSound (E (length s)) (length s) (ones s) m (recordFor m (length s)) (partFor m (length s)) ≡ true
+      unfolding recordFor partFor
+      sound-by Open e n =
+          let i = open-inside a E threshold spends s e in
+          walk-passes a threshold E spends (length s) (ones s) (not-wide a threshold E spends (length s) .0 n) (i .0) (i .1)
+      sound-by (Above t) e n =
+          let h = mark-meets (firstAt a E) (upperAt a E) orders s Upper t .0 e in
+          cc (le?-complete 1 t (h .from), le?-complete t (length s) (h .to))
+      sound-by (AtMost t) e n =
+          let h = mark-meets (firstAt a E) (upperAt a E) orders s Lower t .0 e in
+          cc (le?-complete 1 t (h .from), le?-complete t (length s) (h .to))
+
+      pub record-sound : recordSound (E (length s)) (length s) (ones s) (markOf a E s) (recordFor (markOf a E s) (length s)) (partFor (markOf a E s) (length s)) ≡ true
+      record-sound = sound-by (markOf a E s) refl none
+
+    -- ---- a record and its part are those of a step
+
+    pub stands-at : (m : Mark) (n : ℕ) → length (partFor m n) ≡ wide → Stands a E (lastStep m n) (recordFor m n) (partFor m n)
+    unfolding recordFor partFor
+    stands-at m n size =
+        let w = record-walk a E threshold spends (lastStep m n) in
+        record {
+          lower-is = w .0;
+          upper-is = w .1;
+          over-is = w .2;
+          under-is = w .3;
+          size = size;
+          masses = λ j l. padded-word (rowAt m n .masses) j ∙ sym (mass-word a E threshold spends (lastStep m n) j);
+        }
+
+    -- ---- one more draw, where the row was not wide
+
+    pub narrow-on : (s : Draws) (b : Bool) → NoWideBefore a E (lastStep (markOf a E s) (length s))
+        → (markOf a E s ≡ Open → ¬ (length (rows a E (length s) .masses) ≡ wide))
+        → NoWideBefore a E (lastStep (markOf a E (b ∷ s)) (suc (length s)))
+    narrow-on s b none thin = rw (mark-cons a E b s) (go (markOf a E s) none thin)
+      where
+        go : (m : Mark) → NoWideBefore a E (lastStep m (length s)) → (m ≡ Open → ¬ (length (rows a E (length s) .masses) ≡ wide))
+            → NoWideBefore a E (lastStep (orElse m (verdictOf a E (suc (length s)) (ones (b ∷ s)))) (suc (length s)))
+        go Open n t = rw (verdict-last (suc (length s)) (ones (b ∷ s))) (narrow-next a E threshold spends (length s) n (t refl))
+        go (Above t) n k = n
+        go (AtMost t) n k = n

@@ -1,0 +1,187 @@
+-- State and words of a carried test are what the walks and the draws taken say; 8 and 11 never refuse them; one more draw. Assumes
+-- nothing.
+use mathlib.Core.Path.{_≡_, refl, sym, ap, _∙_}
+use mathlib.Core.Logic.{_↔_}
+use mathlib.Core.Bool.{Bool, true, false, not, _&&_}
+use mathlib.Core.List.{List, [], _∷_}
+use Prim.Native.Nat.{ℕ, zero, suc, _+_, _*_, _≤_, _<_}
+use native.Mathlib.Omega.{arith}
+use borrow.Author.Tests.{eq-eqb, eqb-false}
+use lib.ListN.{length, getD, replicate, length-replicate}
+use Rattle.walk.specs.Numbers.{le?, lt?}
+use Rattle.walk.specs.Units.{wide}
+use Rattle.walk.specs.Walk.{below, NoWideBefore}
+use Rattle.walk.specs.Row.{Row, upper, startRow, rows}
+use Rattle.walk.specs.Strings.{Draws, ones, orElse, isOpen}
+use Rattle.walk.specs.Record.{recordOf, isWide}
+use Rattle.walk.specs.declared.Mark.{Mark}
+use Rattle.walk.specs.declared.Mark.the-variants.{Open, Above, AtMost}
+use Rattle.walk.proofs.Tests.{test, Le?, le, gt, clash, le?-complete}
+use Rattle.walk.proofs.Checks.{wide-record}
+use Rattle.walk.proofs.Seams.{markOf, verdictOf, mark-nil, mark-cons}
+use Rattle.bucket_test.specs.Tests.{eq?, allTo, anyTo, overTo, joinTo}
+use Rattle.bucket_test.specs.Plan.{thresholdAt, spendingOf, Accepted}
+use Rattle.bucket_test.specs.Words.{partAt, wordsFit}
+use Rattle.bucket_test.specs.Turn.{startRecord, noRecord, recordAt, turnRecord, turnPart, recordSound}
+use Rattle.bucket_test.specs.Answers.{lowOf, highOf, anyWide, firstBucket, firstThatFits, answerBy, answerOf, isEnding}
+use Rattle.bucket_test.specs.Draw.{startState, startWords, stateSound, nextState, nextWords}
+use Rattle.bucket_test.specs.Demand3.{lastStep}
+use Rattle.bucket_test.proofs.PlaceLaws.{all-reads, none-reads}
+use Rattle.bucket_test.proofs.PlaceLists.{over-get, over-over, over-same, join-cong, join-length, join-part}
+use Rattle.bucket_test.proofs.Rules.{threshold-ok, spends}
+use Rattle.bucket_test.proofs.Following.{rowAt, recordFor, partFor, mark-for, start-for, turn-record, turn-part, part-size, record-sound, narrow-on}
+use Rattle.bucket_test.specs.declared.Threshold.{Threshold}
+use Rattle.bucket_test.specs.declared.State.{State}
+use Rattle.bucket_test.specs.declared.Plan.{Plan}
+
+-- an answer that does not end the test: nothing is wide, and the horizon is not reached
+pub goes-on : (c b : Bool) (j : ℕ) (w e : Bool) → isEnding (firstThatFits c b j w e) ≡ false → (w ≡ false) × (e ≡ false)
+goes-on true b j w e f = clash f
+goes-on false true j w e f = clash f
+goes-on false false j true e f = clash f
+goes-on false false j false true f = clash f
+goes-on false false j false false f = (refl, refl)
+
+ones-le : (s : Draws) → ones s ≤ length s
+ones-le [] = omega arith
+ones-le (true ∷ s) = omega (arith, ones-le s)
+ones-le (false ∷ s) = omega (arith, ones-le s)
+
+module _ (p : Plan) where
+  -- the mark of the threshold at place i after the draws s
+  abbrev pub markAt : ℕ → Draws → Mark
+  markAt i s = markOf (thresholdAt p i) (spendingOf p i) s
+
+  unfoldable pub recordAfter : Draws → ℕ → Threshold
+  recordAfter s i = recordFor (thresholdAt p i) (spendingOf p i) (markAt i s) (length s)
+
+  unfoldable pub partAfter : Draws → ℕ → List ℕ
+  partAfter s i = partFor (thresholdAt p i) (spendingOf p i) (markAt i s) (length s)
+
+  unfoldable pub stateFor : Draws → State
+  stateFor s = record { n = length s; ones = ones s; records = overTo (p .count) (λ i t. recordAfter s i) (replicate 10 startRecord) }
+
+  unfoldable pub wordsFor : Draws → List ℕ
+  wordsFor s = joinTo (p .count) (partAfter s)
+
+  -- what the draws alone do not show: not past the horizon, and no threshold walked past its first wide step
+  pub record History (s : Draws) : Type 0 where
+    pub in-time : length s ≤ p .horizon
+    pub narrow : (i : ℕ) → i < p .count → NoWideBefore (thresholdAt p i) (spendingOf p i) (lastStep (markAt i s) (length s))
+
+  module _ (ok : Accepted p) where
+    -- ---- the beginning
+
+    pub start-state : startState ≡ stateFor []
+    unfolding startState stateFor recordAfter
+    start-state =
+        ap (λ (rs : List Threshold). record { n = 0; ones = 0; records = rs })
+        (sym (over-same (p .count) (λ i t. recordAfter [] i) 10 startRecord (λ i t.
+        rw (mark-nil (thresholdAt p i) (spendingOf p i)) (start-for (thresholdAt p i) (spendingOf p i) .0))))
+
+    pub start-words : startWords p ≡ wordsFor []
+    unfolding startWords wordsFor partAfter
+    start-words = join-cong (p .count) _ _ (λ i l. rw (mark-nil (thresholdAt p i) (spendingOf p i)) (sym (start-for (thresholdAt p i) (spendingOf p i) .1)))
+
+    module _ (s : Draws) (h : History s) where
+      pub size-at : (i : ℕ) → i < p .count → length (partAfter s i) ≡ wide
+      unfolding partAfter
+      size-at i l = part-size (thresholdAt p i) (spendingOf p i) (threshold-ok p ok i l) (spends p ok i l) s (h .narrow i l)
+
+      pub record-at : (i : ℕ) → i < p .count → recordAt (stateFor s) i ≡ recordAfter s i
+      unfolding stateFor
+      record-at i l = over-get (p .count) (λ i t. recordAfter s i) (replicate 10 startRecord) i noRecord l (omega (arith, ok .count-range, length-replicate 10 startRecord))
+
+      pub mark-at : (i : ℕ) → i < p .count → recordAt (stateFor s) i .mark ≡ markAt i s
+      unfolding recordAfter
+      mark-at i l = ap (λ (t : Threshold). t .mark) (record-at i l) ∙ mark-for (thresholdAt p i) (spendingOf p i) (markAt i s) (length s)
+
+      pub part-at : (i : ℕ) → i < p .count → partAt i (wordsFor s) ≡ partAfter s i
+      unfolding wordsFor
+      part-at i l = join-part (partAfter s) (p .count) size-at i l
+
+      -- ---- 8 and 11 do not refuse
+
+      pub words-fit : wordsFit p (wordsFor s) ≡ true
+      unfolding wordsFit wordsFor eq?
+      words-fit = eq-eqb _ _ (join-length (partAfter s) (p .count) size-at)
+
+      sound-at : (i : ℕ) → i < p .count
+          → recordSound (spendingOf p i (length s)) (length s) (ones s) (recordAt (stateFor s) i .mark) (recordAt (stateFor s) i) (partAt i (wordsFor s)) ≡ true
+      unfolding recordAfter partAfter
+      sound-at i l =
+          rw (mark-at i l, record-at i l, part-at i l)
+          (record-sound (thresholdAt p i) (spendingOf p i) (threshold-ok p ok i l) (spends p ok i l) s (h .narrow i l))
+
+      pub state-sound : stateSound p (stateFor s) (wordsFor s) ≡ true
+      unfolding stateSound stateFor
+      state-sound = cc (le?-complete (length s) (p .horizon) (h .in-time), le?-complete (ones s) (length s) (ones-le s), all-reads _ (p .count) .1 sound-at)
+
+      -- ---- one more draw, 0 or 1
+
+      module _ (d : ℕ) (bit : d ≤ 1) where
+        abbrev b : Bool
+        b = le? 1 d
+
+        ones-next : ones (b ∷ s) ≡ ones s + d
+        ones-next = go (test 1 d)
+          where
+            go : {x : Bool} → Le? 1 d x → ones (x ∷ s) ≡ ones s + d
+            go (le k) = omega arith
+            go (gt k) = omega arith
+
+        module _ (i : ℕ) (l : i < p .count) where
+          record-next : turnRecord (thresholdAt p i) (spendingOf p i (suc (length s))) (suc (length s)) (ones s + d) (recordAfter s i .mark) (recordAfter s i) (partAt i (wordsFor s))
+              ≡ recordAfter (b ∷ s) i
+          unfolding recordAfter partAfter recordFor
+          record-next =
+              rw (part-at i l, mark-cons (thresholdAt p i) (spendingOf p i) b s, ones-next)
+              (turn-record (thresholdAt p i) (spendingOf p i) (threshold-ok p ok i l) (spends p ok i l) (length s) (ones s + d) (markAt i s))
+
+          part-next : turnPart (thresholdAt p i) (spendingOf p i (suc (length s))) (suc (length s)) (ones s + d) (recordAt (stateFor s) i .mark) (recordAt (stateFor s) i) (partAt i (wordsFor s))
+              ≡ partAfter (b ∷ s) i
+          unfolding recordAfter partAfter
+          part-next =
+              rw (mark-at i l, record-at i l, part-at i l, mark-cons (thresholdAt p i) (spendingOf p i) b s, ones-next)
+              (turn-part (thresholdAt p i) (spendingOf p i) (threshold-ok p ok i l) (spends p ok i l) (length s) (ones s + d) (markAt i s))
+
+        records-next : overTo (p .count) (λ i t. turnRecord (thresholdAt p i) (spendingOf p i (suc (length s))) (suc (length s)) (ones s + d) (t .mark) t (partAt i (wordsFor s)))
+            (overTo (p .count) (λ i t. recordAfter s i) (replicate 10 startRecord))
+            ≡ overTo (p .count) (λ i t. recordAfter (b ∷ s) i) (replicate 10 startRecord)
+        records-next =
+            over-over (p .count)
+            (λ i t. turnRecord (thresholdAt p i) (spendingOf p i (suc (length s))) (suc (length s)) (ones s + d) (t .mark) t (partAt i (wordsFor s)))
+            (λ i t. recordAfter s i) (λ i t. recordAfter (b ∷ s) i) (replicate 10 startRecord) (λ i l x. record-next i l)
+
+        pub next-state : nextState p (stateFor s) (wordsFor s) d ≡ stateFor (b ∷ s)
+        unfolding nextState stateFor
+        next-state = λ j. record { n = suc (length s); ones = sym ones-next j; records = records-next j }
+
+        pub next-words : nextWords p (stateFor s) (wordsFor s) d ≡ wordsFor (b ∷ s)
+        unfolding nextWords wordsFor stateFor
+        next-words = join-cong (p .count) _ (partAfter (b ∷ s)) part-next
+
+        -- ---- the history goes on, where the test has not ended
+
+        module _ (open-yet : isEnding (answerOf p (stateFor s)) ≡ false) where
+          not-over : (anyWide p (stateFor s) ≡ false) × (eq? (length s) (p .horizon) ≡ false)
+          unfolding answerOf answerBy stateFor
+          not-over =
+              goes-on (lt? (highOf p (stateFor s)) (lowOf p (stateFor s)))
+              (lt? (firstBucket p (lowOf p (stateFor s)) (highOf p (stateFor s))) (p .buckets))
+              (firstBucket p (lowOf p (stateFor s)) (highOf p (stateFor s)))
+              (anyWide p (stateFor s)) (eq? (length s) (p .horizon)) open-yet
+
+          thin : (i : ℕ) → i < p .count → markAt i s ≡ Open → ¬ (length (rows (thresholdAt p i) (spendingOf p i) (length s) .masses) ≡ wide)
+          unfolding anyWide recordAfter recordFor wide
+          thin i l e h =
+              let w : (isOpen (recordAt (stateFor s) i .mark) && isWide (recordAt (stateFor s) i .walked)) ≡ false = none-reads (λ i. isOpen (recordAt (stateFor s) i .mark) && isWide (recordAt (stateFor s) i .walked)) (p .count) .0 (not-over .0) i l in
+              let r : Row = rows (thresholdAt p i) (spendingOf p i) (length s) in
+              eqb-false (suc (length (r .masses))) 770 (sym (wide-record r) ∙ (rw (mark-at i l, record-at i l, e) at w)) (omega arith)
+
+          pub history-next : History (b ∷ s)
+          unfolding eq?
+          history-next = record {
+            in-time = omega (arith, h .in-time, eqb-false (length s) (p .horizon) (not-over .1));
+            narrow = λ i l. narrow-on (thresholdAt p i) (spendingOf p i) (threshold-ok p ok i l) (spends p ok i l) s b (h .narrow i l) (thin i l);
+          }

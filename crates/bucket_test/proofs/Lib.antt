@@ -1,0 +1,17 @@
+-- Tests by place, and lists made place by place.
+pub mod PlaceLaws
+pub mod PlaceLists
+-- The plan's rules in words.
+pub mod Cover
+pub mod Rules
+-- A carried test: one threshold, the whole state, the beginning, demand 3, runs of draws.
+pub mod Following
+pub mod Invariant
+pub mod Beginning
+pub mod Demand
+pub mod Runs
+mod Trials
+-- What the code leaves to do.
+mod AnsweringLaws
+mod TurningLaws
+mod DrawingLaws

@@ -1,0 +1,16 @@
+-- The two tests of the definition, one after the other.
+use mathlib.Core.Path.{_≡_, sym}
+use Rattle.walk.specs.Numbers.{le?}
+use Rattle.walk.proofs.Tests.{le?-complete, le?-fails}
+use Rattle.bucket_test.proofs.answering.holds_interval.Statement.{statement}
+use Rattle.bucket_test.proofs.answering.holds_interval.Tie as tie
+
+returns : tie.Need-returns
+unfolding le?
+returns c = rw (le?-complete (c .before .args .left) (c .before .args .low) (c .if1 .taken))
+
+returns-2 : tie.Need-returns-2
+returns-2 c = rw (le?-fails (c .before .args .left) (c .before .args .low) (c .if1 .left))
+
+pub holds-interval-spec : {M : Type 1} → statement M
+holds-interval-spec = tie.close (tie.spec returns returns-2)

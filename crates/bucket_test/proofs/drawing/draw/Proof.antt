@@ -1,0 +1,129 @@
+-- Each way out is one case of the definition, by the tests before it.
+use mathlib.Core.Path.{_≡_, refl, sym, ap, _∙_}
+use mathlib.Core.Bool.{true, false}
+use Prim.Native.Nat.{_*_}
+use native.Mathlib.Omega.{arith}
+use lib.ListN.{length}
+use Rattle.walk.specs.Units.{wide}
+use Rattle.bucket_test.specs.Plan.{planRefusal}
+use Rattle.bucket_test.specs.Words.{wordsFit}
+use Rattle.bucket_test.specs.Answers.{answerOf, isEnding}
+use Rattle.bucket_test.specs.Draw.{stateSound}
+use Rattle.bucket_test.proofs.PlaceLaws.{passed, failed}
+use Rattle.bucket_test.proofs.DrawingLaws.{places, hands, words-fit, words-do-not, drawn-plan, drawn-8, drawn-9, drawn-10, drawn-11, drawn-0}
+use borrow.Author.Needs.{needs}
+use Rattle.bucket_test.proofs.drawing.draw.Statement.{statement}
+use Rattle.bucket_test.proofs.drawing.draw.Tie as tie
+
+-- what each test that was passed says
+good : (c : tie.Else1) → planRefusal (c .before .before .before .args .p) ≡ 0
+good c = omega (arith, c .before .plan-refusal .ensures)
+
+long : (c : tie.Else2) → length (c .before .before .before .before .before .args .words .now) ≡ wide * c .before .before .before .before .before .args .p .count
+unfolding wide
+long c = c .if2 .left
+
+fits : (c : tie.Else2) → wordsFit (c .before .before .before .before .before .args .p) (c .before .before .before .before .before .args .words .now) ≡ true
+fits c = words-fit _ _ (long c)
+
+over : (c : tie.After-ends) → c .ends .result ≡ isEnding (answerOf (c .before .before .before .before .before .before .before .before .args .p) (c .before .before .before .before .before .before .before .before .args .s))
+over c = c .ends .ensures ∙ ap isEnding (c .before .answer-of .ensures)
+
+open-yet : (c : tie.Else4) → isEnding (answerOf (c .before .before .before .before .before .before .before .before .before .args .p) (c .before .before .before .before .before .before .before .before .before .args .s)) ≡ false
+open-yet c = sym (over (c .before)) ∙ c .if4 .left
+
+sound : (c : tie.Else5) → stateSound (c .before .before .before .before .before .before .before .before .before .before .before .before .args .p) (c .before .before .before .before .before .before .before .before .before .before .before .before .args .s) (c .before .before .before .before .before .before .before .before .before .before .before .before .args .words .now) ≡ true
+sound c = passed (c .before .state-sound .ensures) (c .if5 .left)
+
+plan-refusal-requires : tie.Need-plan-refusal-requires
+plan-refusal-requires c κs = search needs
+
+refused-requires : tie.Need-refused-requires
+refused-requires c κs = search needs
+
+returns : tie.Need-returns
+returns c = hands (drawn-plan _ _ _ _ (c .before .before .plan-refusal .result) (c .before .before .plan-refusal .ensures) (c .before .if1 .taken)) (c .refused .ensures) refl
+
+cast-count : tie.Need-cast-count
+cast-count c = search needs
+
+mul-if2 : tie.Need-mul-if2
+mul-if2 c = search needs
+
+refused-requires-2 : tie.Need-refused-requires-2
+refused-requires-2 c κs = search needs
+
+returns-2 : tie.Need-returns-2
+unfolding wide
+returns-2 c = hands (drawn-8 _ _ _ _ (good (c .before .before .before)) (words-do-not _ _ (c .before .if2 .taken))) (c .refused2 .ensures) refl
+
+refused-requires-3 : tie.Need-refused-requires-3
+refused-requires-3 c κs = search needs
+
+returns-3 : tie.Need-returns-3
+returns-3 c = hands (drawn-9 _ _ _ _ (good (c .before .before .before .before)) (fits (c .before .before)) (c .before .if3 .taken)) (c .refused3 .ensures) refl
+
+answer-of-requires : tie.Need-answer-of-requires
+answer-of-requires c κs = places _ (good (c .before .before .before))
+
+ends-requires : tie.Need-ends-requires
+ends-requires c κs = search needs
+
+refused-requires-4 : tie.Need-refused-requires-4
+refused-requires-4 c κs = search needs
+
+returns-4 : tie.Need-returns-4
+returns-4 c = hands (drawn-10 _ _ _ _ (good (c .before .before .before .before .before .before .before)) (fits (c .before .before .before .before .before)) (c .before .before .before .before .if3 .left) (sym (over (c .before .before)) ∙ c .before .if4 .taken)) (c .refused4 .ensures) refl
+
+state-sound-requires : tie.Need-state-sound-requires
+state-sound-requires c κs = (good (c .before .before .before .before .before .before .before), long (c .before .before .before .before .before))
+
+refused-requires-5 : tie.Need-refused-requires-5
+refused-requires-5 c κs = search needs
+
+same-length : tie.Need-same-length
+same-length c = search needs
+
+returns-5 : tie.Need-returns-5
+returns-5 c = hands (drawn-11 _ _ _ _ (good (c .before .before .before .before .before .before .before .before .before .before)) (fits (c .before .before .before .before .before .before .before .before)) (c .before .before .before .before .before .before .before .if3 .left) (open-yet (c .before .before .before .before)) (failed (c .before .before .state-sound .ensures) (c .before .if5 .taken))) (c .refused5 .ensures) refl
+
+take-one-requires : tie.Need-take-one-requires
+take-one-requires c κs = (good (c .before .before .before .before .before .before .before .before .before .before), long (c .before .before .before .before .before .before .before .before), c .before .before .before .before .before .before .before .if3 .left, open-yet (c .before .before .before .before), sound (c .before))
+
+answer-of-requires-2 : tie.Need-answer-of-requires-2
+answer-of-requires-2 c κs = places _ (good (c .before .before .before .before .before .before .before .before .before .before .before .before .before))
+
+same-length-2 : tie.Need-same-length-2
+same-length-2 c = search needs
+
+returns-6 : tie.Need-returns-6
+returns-6 c =
+    let t = c .before .before .before .take-one .ensures in
+    hands (drawn-0 _ _ _ _ (good (c .before .before .before .before .before .before .before .before .before .before .before .before .before .before)) (fits (c .before .before .before .before .before .before .before .before .before .before .before .before)) (c .before .before .before .before .before .before .before .before .before .before .before .if3 .left) (open-yet (c .before .before .before .before .before .before .before .before)) (sound (c .before .before .before .before .before)))
+    (rw (c .answer-of2 .ensures, t .0)) (t .1)
+
+pub draw-spec : {M : Type 1} → statement M
+draw-spec =
+    tie.close
+    (tie.spec
+    plan-refusal-requires
+    refused-requires
+    returns
+    cast-count
+    mul-if2
+    refused-requires-2
+    returns-2
+    refused-requires-3
+    returns-3
+    answer-of-requires
+    ends-requires
+    refused-requires-4
+    returns-4
+    state-sound-requires
+    refused-requires-5
+    same-length
+    returns-5
+    take-one-requires
+    answer-of-requires-2
+    same-length-2
+    returns-6)

@@ -1,0 +1,31 @@
+-- A plan that is refused, or the answer and the interval.
+use mathlib.Core.Path.{_≡_, sym}
+use native.Mathlib.Omega.{arith}
+use Rattle.bucket_test.specs.Plan.{planRefusal}
+use Rattle.bucket_test.proofs.DrawingLaws.{places, report-plan, report-0}
+use borrow.Author.Needs.{needs}
+use Rattle.bucket_test.proofs.drawing.report_on.Statement.{statement}
+use Rattle.bucket_test.proofs.drawing.report_on.Tie as tie
+
+good : (c : tie.Else1) → planRefusal (c .before .before .args .p) ≡ 0
+good c = omega (arith, c .before .plan-refusal .ensures)
+
+plan-refusal-requires : tie.Need-plan-refusal-requires
+plan-refusal-requires c κs = search needs
+
+returns : tie.Need-returns
+returns c = sym (report-plan (c .before .before .args .p) (c .before .before .args .s) (c .before .plan-refusal .result) (c .before .plan-refusal .ensures) (c .if1 .taken))
+
+answer-of-requires : tie.Need-answer-of-requires
+answer-of-requires c κs = places _ (good c)
+
+interval-of-requires : tie.Need-interval-of-requires
+interval-of-requires c κs = places _ (good (c .before)) .0
+
+returns-2 : tie.Need-returns-2
+returns-2 c = rw (report-0 (c .before .before .before .before .args .p) (c .before .before .before .before .args .s) (good (c .before .before)), c .before .answer-of .ensures, c .interval-of .ensures .0, c .interval-of .ensures .1)
+
+pub report-on-spec : {M : Type 1} → statement M
+report-on-spec =
+    tie.close
+    (tie.spec plan-refusal-requires returns answer-of-requires interval-of-requires returns-2)

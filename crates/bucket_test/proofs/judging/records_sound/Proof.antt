@@ -1,0 +1,133 @@
+-- The records before place i pass.
+use mathlib.Core.Path.{_≡_, refl, sym, _∙_}
+use mathlib.Core.Bool.{Bool, true}
+use mathlib.Core.List.{List}
+use Prim.Native.Nat.{ℕ, _*_, _-_, _≤_}
+use native.Mathlib.Omega.{arith}
+use lib.ListN.{length}
+use Rattle.walk.specs.Units.{wide}
+use Rattle.bucket_test.specs.Tests.{allTo}
+use Rattle.bucket_test.specs.Plan.{spendingOf}
+use Rattle.bucket_test.specs.Words.{partAt}
+use Rattle.bucket_test.specs.Turn.{recordAt, recordSound}
+use Rattle.bucket_test.specs.declared.Plan.{Plan}
+use Rattle.bucket_test.specs.declared.State.{State}
+use Rattle.bucket_test.proofs.PlaceLaws.{passed, failed, all-next, all-done, all-fails}
+use Rattle.bucket_test.proofs.Rules.{accepted}
+use Rattle.bucket_test.proofs.TurningLaws.{part-lent}
+use borrow.Author.Needs.{needs}
+use Rattle.bucket_test.proofs.judging.records_sound.Statement.{statement}
+use Rattle.bucket_test.proofs.judging.records_sound.Tie as tie
+
+abbrev soundAt : Plan → State → List ℕ → ℕ → Bool
+soundAt p s ws i = recordSound (spendingOf p i (s .n)) (s .n) (s .ones) (recordAt s i .mark) (recordAt s i) (partAt i ws)
+
+abbrev Inv-loop : tie.InvT-loop
+Inv-loop words p s count i₀ i = (i ≤ count) × (count ≤ 10) × (length words ≡ 769 * count) × (allTo i (soundAt p s words) ≡ true)
+
+abbrev μ-loop : tie.MeasureT-loop
+μ-loop words p s count i₀ i = count - i
+
+cast-count : tie.Need-cast-count Inv-loop μ-loop
+cast-count c = search needs
+
+loop-holds : tie.Need-loop-holds Inv-loop μ-loop
+unfolding allTo wide
+loop-holds c = (omega arith, accepted (c .before .args .t1) .0 (c .before .pre .0) .count-range .1, c .before .pre .1, refl)
+
+mul-t : tie.Need-mul-t Inv-loop μ-loop
+mul-t c = search needs
+
+element-copy-out-t : tie.Need-element-copy-out-t Inv-loop μ-loop
+element-copy-out-t c = search needs
+
+mul-spending-at : tie.Need-mul-spending-at Inv-loop μ-loop
+mul-spending-at c = search needs
+
+element-copy-out-spending-at : tie.Need-element-copy-out-spending-at Inv-loop μ-loop
+element-copy-out-spending-at c = search needs
+
+spending-at-requires : tie.Need-spending-at-requires Inv-loop μ-loop
+spending-at-requires c κs =
+    let ok = accepted (c .before .before .before .before .before .args .t1) .0 (c .before .before .before .before .before .pre .0) in
+    (ok .allowance-range (c .before .before .before .loop .i) (c .before .before .loop-test .taken) .1, ok .delay-range .0, omega (arith, c .before .before .before .before .before .pre .2))
+
+mul-at : tie.Need-mul-at Inv-loop μ-loop
+mul-at c = search needs
+
+add-record-sound : tie.Need-add-record-sound Inv-loop μ-loop
+add-record-sound c = search needs
+
+mul-record-sound : tie.Need-mul-record-sound Inv-loop μ-loop
+mul-record-sound c = search needs
+
+sub-record-sound : tie.Need-sub-record-sound Inv-loop μ-loop
+sub-record-sound c = search needs
+
+part-record-sound-start : tie.Need-part-record-sound-start Inv-loop μ-loop
+part-record-sound-start c = search needs
+
+part-record-sound-end : tie.Need-part-record-sound-end Inv-loop μ-loop
+part-record-sound-end c = search needs
+
+record-sound-requires : tie.Need-record-sound-requires Inv-loop μ-loop
+record-sound-requires c κs = search needs
+
+judged : (c : tie.After-record-sound Inv-loop μ-loop)
+    → let a = c .before .before .before .before .before .before .before .before .args in c .record-sound .result ≡ soundAt (a .t1) (a .t2) (a .words .now) (c .before .before .before .before .before .before .loop .i)
+unfolding spendingOf
+judged c = c .record-sound .ensures ∙ rw (c .before .before .spending-at .ensures, part-lent (c .before .before .before .before .before .before .loop .i) (c .before .before .before .before .before .before .before .before .args .words .now))
+
+returns : tie.Need-returns Inv-loop μ-loop
+returns c =
+    let a = c .before .before .before .before .before .before .before .before .before .args in
+    let l = c .before .before .before .before .before .before .before .loop in
+    sym (all-fails (soundAt (a .t1) (a .t2) (a .words .now)) (a .t1 .count) (l .i) (c .before .before .before .before .before .before .loop-test .taken) (failed (judged (c .before)) (c .if1 .taken)))
+
+add-i : tie.Need-add-i Inv-loop μ-loop
+add-i c = search needs
+
+loop-less : tie.Need-loop-less Inv-loop μ-loop
+loop-less c = search needs
+
+loop-again : tie.Need-loop-again Inv-loop μ-loop
+loop-again c =
+    let a = c .before .before .before .before .before .before .before .before .before .args in
+    let l = c .before .before .before .before .before .before .before .loop in (
+      omega arith,
+      l .inv .1,
+      l .inv .2,
+      all-next (soundAt (a .t1) (a .t2) (a .words .now)) (l .i) (l .inv .3) (passed (judged (c .before)) (c .if1 .left)),
+    )
+
+returns-2 : tie.Need-returns-2 Inv-loop μ-loop
+returns-2 c =
+    let a = c .before .before .before .args in
+    let l = c .before .loop in
+    all-done (soundAt (a .t1) (a .t2) (a .words .now)) (a .t1 .count) (l .i) (l .inv .0) (c .loop-test .left) (l .inv .3)
+
+pub records-sound-spec : {M : Type 1} → statement M
+records-sound-spec =
+    tie.close
+    (tie.spec
+    Inv-loop
+    μ-loop
+    cast-count
+    loop-holds
+    mul-t
+    element-copy-out-t
+    mul-spending-at
+    element-copy-out-spending-at
+    spending-at-requires
+    mul-at
+    add-record-sound
+    mul-record-sound
+    sub-record-sound
+    part-record-sound-start
+    part-record-sound-end
+    record-sound-requires
+    returns
+    add-i
+    loop-less
+    loop-again
+    returns-2)

@@ -1,0 +1,186 @@
+-- After i turns the first i records and parts have had theirs; the others are as they were.
+use mathlib.Core.Path.{_≡_, refl, ap, _∙_}
+use mathlib.Core.List.{List, _++_}
+use Prim.Native.Nat.{ℕ, _+_, _*_, _-_, _≤_}
+use native.Mathlib.Omega.{arith}
+use lib.ListN.{length, take, drop, getD}
+use Rattle.walk.specs.Units.{wide}
+use Rattle.bucket_test.specs.Tests.{overTo, joinTo}
+use Rattle.bucket_test.specs.Plan.{thresholdAt, spendingOf}
+use Rattle.bucket_test.specs.Words.{partAt}
+use Rattle.bucket_test.specs.Turn.{noRecord, turnRecord, turnPart}
+use Rattle.bucket_test.specs.declared.Plan.{Plan}
+use Rattle.bucket_test.specs.declared.Threshold.{Threshold}
+use Rattle.bucket_test.proofs.Rules.{accepted}
+use Rattle.bucket_test.proofs.TurningLaws.{record-now, record-put, words-none, words-all, part-now, part-put, may-turn, same-record, same-part}
+use borrow.Author.Needs.{needs}
+use Rattle.bucket_test.proofs.turning.turn_all.Statement.{statement}
+use Rattle.bucket_test.proofs.turning.turn_all.Tie as tie
+
+abbrev recordTurn : Plan → List ℕ → ℕ → ℕ → ℕ → Threshold → Threshold
+recordTurn p ws n ones i t = turnRecord (thresholdAt p i) (spendingOf p i n) n ones (t .mark) t (partAt i ws)
+
+abbrev partTurn : Plan → List Threshold → List ℕ → ℕ → ℕ → ℕ → List ℕ
+partTurn p rs ws n ones i = turnPart (thresholdAt p i) (spendingOf p i n) n ones (getD rs i noRecord .mark) (getD rs i noRecord) (partAt i ws)
+
+abbrev Inv-loop : tie.InvT-loop
+Inv-loop words₀ n ones p count next₀ i₀ words next i =
+    (i ≤ count)
+    × (count ≤ 10)
+    × (length words₀ ≡ 769 * count)
+    × (length words ≡ length words₀)
+    × (next ≡ overTo i (recordTurn p words₀ n ones) next₀)
+    × (words ≡ joinTo i (partTurn p next₀ words₀ n ones) ++ drop (wide * i) words₀)
+
+abbrev μ-loop : tie.MeasureT-loop
+μ-loop words₀ n ones p count next₀ i₀ words next i = count - i
+
+cast-count : tie.Need-cast-count Inv-loop μ-loop
+cast-count c = search needs
+
+loop-holds : tie.Need-loop-holds Inv-loop μ-loop
+unfolding overTo wide
+loop-holds c =
+    let a = c .before .args in (
+      omega arith,
+      accepted (a .t1) .0 (c .before .pre .0) .count-range .1,
+      c .before .pre .1,
+      refl,
+      refl,
+      words-none (partTurn (a .t1) (a .records) (a .words .now) (a .n) (a .ones)) (a .words .now),
+    )
+
+mul-t : tie.Need-mul-t Inv-loop μ-loop
+mul-t c = search needs
+
+array-copy-out-t : tie.Need-array-copy-out-t Inv-loop μ-loop
+array-copy-out-t c = search needs
+
+mul-a : tie.Need-mul-a Inv-loop μ-loop
+mul-a c = search needs
+
+element-copy-out-a : tie.Need-element-copy-out-a Inv-loop μ-loop
+element-copy-out-a c = search needs
+
+mul-spending-at : tie.Need-mul-spending-at Inv-loop μ-loop
+mul-spending-at c = search needs
+
+element-copy-out-spending-at : tie.Need-element-copy-out-spending-at Inv-loop μ-loop
+element-copy-out-spending-at c = search needs
+
+spending-at-requires : tie.Need-spending-at-requires Inv-loop μ-loop
+spending-at-requires c κs =
+    let a = c .before .before .before .before .before .before .args in
+    let ok = accepted (a .t1) .0 (c .before .before .before .before .before .before .pre .0) in
+    (ok .allowance-range (c .before .before .before .before .loop .i) (c .before .before .before .loop-test .taken) .1, ok .delay-range .0, omega (arith, c .before .before .before .before .before .before .pre .2))
+
+mul-at : tie.Need-mul-at Inv-loop μ-loop
+mul-at c = search needs
+
+add-turn : tie.Need-add-turn Inv-loop μ-loop
+add-turn c = search needs
+
+mul-turn : tie.Need-mul-turn Inv-loop μ-loop
+mul-turn c = search needs
+
+sub-turn : tie.Need-sub-turn Inv-loop μ-loop
+sub-turn c = search needs
+
+part-turn-start : tie.Need-part-turn-start Inv-loop μ-loop
+part-turn-start c = search needs
+
+part-turn-end : tie.Need-part-turn-end Inv-loop μ-loop
+part-turn-end c = search needs
+
+-- the record and the part whose turn it is are as they were
+now-at : (c : tie.After-spending-at Inv-loop μ-loop)
+    → let a = c .before .before .before .before .before .before .before .args in
+    let l = c .before .before .before .before .before .loop in
+    (getD (l .next) (l .i) noRecord ≡ getD (a .records) (l .i) noRecord)
+    × (take (769 * l .i + 769 - 769 * l .i) (drop (769 * l .i) (l .words)) ≡ partAt (l .i) (a .words .now))
+now-at c =
+    let a = c .before .before .before .before .before .before .before .args in
+    let l = c .before .before .before .before .before .loop in (
+      record-now (recordTurn (a .t1) (a .words .now) (a .n) (a .ones)) (a .records) (l .next) (l .i) (l .inv .4) noRecord,
+      part-now (partTurn (a .t1) (a .records) (a .words .now) (a .n) (a .ones)) (a .words .now) (l .i) (omega arith) (l .words) (l .inv .3) (l .inv .5),
+    )
+
+turn-requires : tie.Need-turn-requires Inv-loop μ-loop
+unfolding spendingOf
+turn-requires c κs =
+    let a = c .before .before .before .before .before .before .before .before .args in
+    let l = c .before .before .before .before .before .before .loop in
+    let k = now-at (c .before) in
+    may-turn _ (a .n) (a .ones) (c .before .spending-at .ensures) (k .0) (k .1) (c .before .before .before .before .before .before .before .before .pre .3 (l .i) (c .before .before .before .before .before .loop-test .taken))
+
+mul-next : tie.Need-mul-next Inv-loop μ-loop
+mul-next c = search needs
+
+array-set-from-next : tie.Need-array-set-from-next Inv-loop μ-loop
+array-set-from-next c = search needs
+
+add-i : tie.Need-add-i Inv-loop μ-loop
+add-i c = search needs
+
+loop-less : tie.Need-loop-less Inv-loop μ-loop
+loop-less c = search needs
+
+loop-again : tie.Need-loop-again Inv-loop μ-loop
+unfolding spendingOf
+loop-again c =
+    let a = c .before .before .before .before .before .before .before .before .before .before .before .args in
+    let l = c .before .before .before .before .before .before .before .before .before .loop in
+    let k = now-at (c .before .before .before .before) in
+    let e = c .before .before .before .before .spending-at .ensures in
+    let done = c .before .before .turn .ensures in (
+      omega arith,
+      l .inv .1,
+      l .inv .2,
+      search needs,
+      record-put (recordTurn (a .t1) (a .words .now) (a .n) (a .ones)) (a .records) (l .next) (l .i) (l .inv .4) noRecord _
+          (same-record _ (a .n) (a .ones) e (k .0) (k .1) (done .0)),
+      part-put (partTurn (a .t1) (a .records) (a .words .now) (a .n) (a .ones)) (a .words .now) (l .i) (omega arith) (l .words) (l .inv .3) (l .inv .5) _
+          (same-part _ (a .n) (a .ones) e (k .0) (k .1) (done .1)),
+    )
+
+same-length : tie.Need-same-length Inv-loop μ-loop
+same-length c = search needs
+
+returns : tie.Need-returns Inv-loop μ-loop
+returns c =
+    let a = c .before .before .before .args in
+    let l = c .before .loop in
+    let ended : l .i ≡ a .t1 .count = omega arith in (
+      l .inv .4 ∙ ap (λ (k : ℕ). overTo k (recordTurn (a .t1) (a .words .now) (a .n) (a .ones)) (a .records)) ended,
+      l .inv .5 ∙ words-all (partTurn (a .t1) (a .records) (a .words .now) (a .n) (a .ones)) (a .words .now) (a .t1 .count) (l .i) (c .before .before .before .pre .1) ended,
+    )
+
+pub turn-all-spec : {M : Type 1} → statement M
+turn-all-spec =
+    tie.close
+    (tie.spec
+    Inv-loop
+    μ-loop
+    cast-count
+    loop-holds
+    mul-t
+    array-copy-out-t
+    mul-a
+    element-copy-out-a
+    mul-spending-at
+    element-copy-out-spending-at
+    spending-at-requires
+    mul-at
+    add-turn
+    mul-turn
+    sub-turn
+    part-turn-start
+    part-turn-end
+    turn-requires
+    mul-next
+    array-set-from-next
+    add-i
+    loop-less
+    loop-again
+    same-length
+    returns)

@@ -1,0 +1,88 @@
+-- Demand 3: what is claimed of a carried test. Definitions only.
+use mathlib.Core.Path.{_≡_}
+use mathlib.Core.Logic.{_↔_, _⊎_}
+use mathlib.Core.Bool.{Bool, true}
+use mathlib.Core.List.{List, [], _∷_}
+use Prim.Native.Nat.{ℕ, zero, suc, _+_, _*_, _^_, _≤_, _<_}
+use lib.ListN.{length, getD}
+use Rattle.walk.specs.Units.{M, million, wide}
+use Rattle.walk.specs.Walk.{walk, lower, firstAt, upperAt, NoWideBefore}
+use Rattle.walk.specs.Strings.{Draws, ones, chance, Side, settled, mark, isOn}
+use Rattle.walk.specs.Chance.{Meets, meeting, spent, Bounds}
+use Rattle.walk.specs.declared.Mark.{Mark}
+use Rattle.walk.specs.declared.Mark.the-variants.{Open, Above, AtMost}
+use Rattle.bucket_test.specs.Plan.{thresholdAt, spendingOf, Accepted}
+use Rattle.bucket_test.specs.Words.{partAt}
+use Rattle.bucket_test.specs.Turn.{recordAt}
+use Rattle.bucket_test.specs.Answers.{answerOf}
+use Rattle.bucket_test.specs.Draw.{Outcome}
+use Rattle.bucket_test.specs.Carried.{carried, hasEnded, taken}
+use Rattle.bucket_test.specs.declared.Threshold.{Threshold}
+use Rattle.bucket_test.specs.declared.Plan.{Plan}
+use Rattle.bucket_test.specs.declared.Answer.the-variants.{Refused}
+
+-- ---- one threshold a with the spending E, after the draws s
+
+module _ (a : ℕ) (E : ℕ → ℕ) where
+  -- its mark is settled on a side at step t exactly when the draws meet that side's boundary first at t; else it is open
+  pub record Marks (s : Draws) (m : Mark) : Type 0 where
+    pub settles : (side : Side) (t : ℕ) → (m ≡ settled side t) ↔ Meets a E side t s
+    pub else-open : (m ≡ Open) ↔ ((side : Side) (t : ℕ) → ¬ (Meets a E side t s))
+
+  -- its record and its part hold boundaries, spent masses and masses of step t; word j is the mass at count lower + 1 + j
+  pub record Stands (t : ℕ) (r : Threshold) (part : List ℕ) : Type 0 where
+    pub lower-is : r .walked .lower ≡ lower (walk a E t)
+    pub upper-is : r .walked .upper ≡ walk a E t .upper
+    pub over-is : r .walked .over ≡ walk a E t .over
+    pub under-is : r .walked .under ≡ walk a E t .under
+    pub size : length part ≡ wide
+    pub masses : (j : ℕ) → j < wide → getD part j 0 ≡ walk a E t .mass (walk a E t .first + j)
+
+-- the last step walked, after n draws taken: an open threshold's is n, a settled one's the step where the draws first met a boundary
+abbrev pub lastStep : Mark → ℕ → ℕ
+lastStep Open n = n
+lastStep (Above t) n = t
+lastStep (AtMost t) n = t
+
+-- ---- the claim on the whole list and all strings
+
+-- the answer to the draw d, where `ended` says whether an earlier draw had an ending answer: refused by 9 exactly when d is neither 0 nor 1,
+-- else by 10 exactly when an earlier one had, by nothing else; any other answer is the answer rule's for the state just reached
+pub record AnswersDraw (p : Plan) (d : ℕ) (ended : Bool) (o : Outcome) : Type 0 where
+  pub by-9 : (o .answer ≡ Refused 9) ↔ (¬ ((d ≡ 0) ⊎ (d ≡ 1)))
+  pub by-10 : (o .answer ≡ Refused 10) ↔ (((d ≡ 0) ⊎ (d ≡ 1)) × (ended ≡ true))
+  pub by-no-other : (r : ℕ) → o .answer ≡ Refused r → (r ≡ 9) ⊎ (r ≡ 10)
+  pub by-rule : ((r : ℕ) → ¬ (o .answer ≡ Refused r)) → o .answer ≡ answerOf p (o .state)
+
+module _ (p : Plan) (words : List ℕ) where
+  -- each draw of the list is so answered
+  unfoldable pub Answered : List ℕ → Type 0
+  Answered [] = carried p words [] .answer ≡ answerOf p (carried p words [] .state)
+  Answered (d ∷ ds) = AnswersDraw p d (hasEnded p words ds) (carried p words (d ∷ ds)) × Answered ds
+
+  pub record Demand3 (ds : List ℕ) : Type 0 where
+    pub answered : Answered ds
+    -- a test that has ended stays as it is
+    pub ended-stays : (d : ℕ) → hasEnded p words ds ≡ true
+        → (carried p words (d ∷ ds) .state ≡ carried p words ds .state) × (carried p words (d ∷ ds) .words ≡ carried p words ds .words)
+    pub n-is : carried p words ds .state .n ≡ length (taken p words ds)
+    pub ones-is : carried p words ds .state .ones ≡ ones (taken p words ds)
+    pub marks : (i : ℕ) → i < p .count → Marks (thresholdAt p i) (spendingOf p i) (taken p words ds) (recordAt (carried p words ds .state) i .mark)
+    pub stands : (i : ℕ) → i < p .count
+        → Stands (thresholdAt p i) (spendingOf p i) (lastStep (recordAt (carried p words ds .state) i .mark) (length (taken p words ds)))
+        (recordAt (carried p words ds .state) i) (partAt i (carried p words ds .words))
+    -- the chances, from n = 0 on: up to the first wide step W sums the weights of exactly the strings that meet the side's boundary first at
+    -- some step, and is bounded by E(n) and, in both directions, by the spent mass ..
+    pub counted : (i : ℕ) → i < p .count → (s : Draws) → NoWideBefore (thresholdAt p i) (spendingOf p i) (length s) → (side : Side)
+        → (isOn side (mark (firstAt (thresholdAt p i) (spendingOf p i)) (upperAt (thresholdAt p i) (spendingOf p i)) s) ≡ true)
+        ↔ ((t : ℕ) × Meets (thresholdAt p i) (spendingOf p i) side t s)
+    pub chances : (i : ℕ) → i < p .count → (n : ℕ) → NoWideBefore (thresholdAt p i) (spendingOf p i) n → (side : Side)
+        → Bounds (spendingOf p i) n (meeting (thresholdAt p i) (spendingOf p i) side n) (spent side (walk (thresholdAt p i) (spendingOf p i) n)) (wide * n)
+    -- .. and past it too, E(n) bounds the weight of the strings that meet the side's boundary at a step not past it
+    pub allowed : (i : ℕ) → i < p .count → (n : ℕ) (side : Side) (test : Draws → Bool)
+        → ((s : Draws) → length s ≡ n → test s ≡ true → (t : ℕ) × Meets (thresholdAt p i) (spendingOf p i) side t s)
+        → chance (thresholdAt p i) million n test * M ≤ spendingOf p i n * million ^ n
+
+-- of every accepted plan, every lent words of the right number, and every list
+abbrev pub Demand3Theorem : Type 0
+Demand3Theorem = (p : Plan) → Accepted p → (words : List ℕ) → length words ≡ wide * p .count → (ds : List ℕ) → Demand3 p words ds

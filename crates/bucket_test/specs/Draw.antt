@@ -1,0 +1,111 @@
+-- A beginning and a draw, of every plan, state, list of words and draw (01, "Words lent to a test", "Taking a draw" and "Order").
+use mathlib.Core.Bool.{Bool, true, false, not, _&&_}
+use mathlib.Core.List.{List, [], _∷_}
+use Prim.Native.Nat.{ℕ, zero, suc, _+_}
+use lib.ListN.{replicate}
+use Rattle.walk.specs.Numbers.{le?}
+use Rattle.walk.specs.Row.{startRow}
+use Rattle.walk.specs.Record.{padded}
+use Rattle.bucket_test.specs.Tests.{allTo, unless, firstRefusal, overTo, joinTo}
+use Rattle.bucket_test.specs.Plan.{thresholdAt, spendingOf, planRefusal}
+use Rattle.bucket_test.specs.Words.{partAt, wordsFit}
+use Rattle.bucket_test.specs.Turn.{startRecord, noRecord, recordAt, turnRecord, turnPart, recordSound}
+use Rattle.bucket_test.specs.Answers.{lowOf, highOf, answerOf, isEnding, goesOn}
+use Rattle.bucket_test.specs.declared.State.{State}
+use Rattle.bucket_test.specs.declared.Plan.{Plan}
+use Rattle.bucket_test.specs.declared.Drawn.{Drawn}
+use Rattle.bucket_test.specs.declared.Report.{Report}
+use Rattle.bucket_test.specs.declared.Answer.{Answer}
+use Rattle.bucket_test.specs.declared.Answer.the-variants.{Refused}
+
+-- what a call hands back: the answer, the state, and the lent words
+pub record Outcome : Type 0 where
+  pub answer : Answer
+  pub state : State
+  pub words : List ℕ
+
+abbrev pub drawnOf : Outcome → Drawn
+drawnOf o = record { answer = o .answer; state = o .state }
+
+-- ---- a beginning: plan, 8
+
+-- ten open records with step 0's boundaries, and each part the words of step 0
+unfoldable pub startState : State
+startState = record { n = 0; ones = 0; records = replicate 10 startRecord }
+
+unfoldable pub startWords : Plan → List ℕ
+startWords p = joinTo (p .count) (λ i. padded (startRow .masses))
+
+-- no state: zeros in every number, and open marks
+unfoldable pub noState : State
+noState = record { n = 0; ones = 0; records = replicate 10 noRecord }
+
+unfoldable pub beginRefusal : Plan → List ℕ → ℕ
+beginRefusal p words = firstRefusal (planRefusal p ∷ unless (wordsFit p words) 8 ∷ [])
+
+abbrev pub begunBy : ℕ → Plan → List ℕ → Outcome
+begunBy zero p words = record { answer = answerOf p startState; state = startState; words = startWords p }
+begunBy (suc r) p words = record { answer = Refused (suc r); state = noState; words = words }
+
+unfoldable pub begun : Plan → List ℕ → Outcome
+begun p words = begunBy (beginRefusal p words) p words
+
+-- ---- a draw: plan, 8, 9, 10, 11
+
+-- refusal 11, judged on the first K records only
+unfoldable pub stateSound : Plan → State → List ℕ → Bool
+stateSound p s words =
+    le? (s .n) (p .horizon)
+    && (le? (s .ones) (s .n)
+    && allTo (p .count) (λ i. recordSound (spendingOf p i (s .n)) (s .n) (s .ones) (recordAt s i .mark) (recordAt s i) (partAt i words)))
+
+unfoldable pub drawRefusal : Plan → State → List ℕ → ℕ → ℕ
+drawRefusal p s words d =
+    firstRefusal (
+    planRefusal p
+    ∷ unless (wordsFit p words) 8
+    ∷ unless (le? d 1) 9
+    ∷ unless (not (isEnding (answerOf p s))) 10
+    ∷ unless (stateSound p s words) 11
+    ∷ []
+    )
+
+-- n and S rise first; then each of the first K thresholds has its turn, and the records past K stay
+unfoldable pub nextState : Plan → State → List ℕ → ℕ → State
+nextState p s words d = record {
+  n = suc (s .n);
+  ones = s .ones + d;
+  records = overTo (p .count) (λ i t. turnRecord (thresholdAt p i) (spendingOf p i (suc (s .n))) (suc (s .n)) (s .ones + d) (t .mark) t (partAt i words)) (s .records);
+}
+
+unfoldable pub nextWords : Plan → State → List ℕ → ℕ → List ℕ
+nextWords p s words d =
+    joinTo (p .count) (λ i. turnPart (thresholdAt p i) (spendingOf p i (suc (s .n))) (suc (s .n)) (s .ones + d) (recordAt s i .mark) (recordAt s i) (partAt i words))
+
+abbrev pub drawnBy : ℕ → Plan → State → List ℕ → ℕ → Outcome
+drawnBy zero p s words d = record { answer = answerOf p (nextState p s words d); state = nextState p s words d; words = nextWords p s words d }
+drawnBy (suc r) p s words d = record { answer = Refused (suc r); state = s; words = words }
+
+unfoldable pub drawn : Plan → State → List ℕ → ℕ → Outcome
+drawn p s words d = drawnBy (drawRefusal p s words d) p s words d
+
+-- ---- the answer to a state as it stands, with its interval
+
+abbrev pub reportBy : ℕ → Plan → State → Report
+reportBy zero p s = record { answer = answerOf p s; low = lowOf p s; high = highOf p s }
+reportBy (suc r) p s = record { answer = Refused (suc r); low = 0; high = 0 }
+
+unfoldable pub report : Plan → State → Report
+report p s = reportBy (planRefusal p) p s
+
+-- ---- a run of draws: as many as are answered `open`, and the first that is not
+
+abbrev pub unlessOpen : Bool → Outcome → Outcome → Outcome
+unlessOpen true o rest = rest
+unlessOpen false o rest = o
+
+unfoldable pub drawnAll : Plan → State → List ℕ → List ℕ → Outcome
+drawnAll p s words [] = record { answer = report p s .answer; state = s; words = words }
+drawnAll p s words (d ∷ ds) =
+    let o = drawn p s words d in
+    unlessOpen (goesOn (o .answer)) o (drawnAll p (o .state) (o .words) ds)

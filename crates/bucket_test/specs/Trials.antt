@@ -1,0 +1,127 @@
+-- The trials of 01 that are proved, P1 to P10: what is computed from the definitions beside what 01 prints, a line each.
+use mathlib.Core.List.{List, [], _∷_, map}
+use Prim.Native.Nat.{ℕ, zero, suc}
+use lib.IntN.{ℤ, pos, negsuc}
+use lib.ListN.{replicate}
+use Rattle.walk.specs.Numbers.{sum}
+use Rattle.walk.specs.Units.{M}
+use Rattle.walk.specs.Spending.{spending}
+use Rattle.walk.specs.Walk.{walk, lower}
+use Rattle.walk.specs.Row.{newMasses}
+use Rattle.walk.specs.declared.Mark.{Mark}
+use Rattle.walk.specs.declared.Mark.the-variants.{Open, Above, AtMost}
+use Rattle.bucket_test.specs.Plan.{thresholdAt, spendingOf, planRefusal}
+use Rattle.bucket_test.specs.Turn.{startRecord}
+use Rattle.bucket_test.specs.Answers.{lowOf, highOf, answerOf, wordOf}
+use Rattle.bucket_test.specs.declared.Threshold.{Threshold}
+use Rattle.bucket_test.specs.declared.State.{State}
+use Rattle.bucket_test.specs.declared.Plan.{Plan}
+
+-- plan F, and its spending; the spending of P5
+unfoldable pub planF : Plan
+planF = record {
+  count = 1;
+  buckets = 2;
+  delay = 1000;
+  horizon = 200;
+  thresholds = 50000 ∷ replicate 9 0;
+  allowances = 4398046511 ∷ replicate 9 0;
+  left = 0 ∷ 50000 ∷ replicate 14 0;
+  right = 50000 ∷ 1000000 ∷ replicate 14 0;
+}
+
+abbrev spendingF : ℕ → ℕ
+spendingF = spendingOf planF 0
+
+abbrev thresholdF : ℕ
+thresholdF = thresholdAt planF 0
+
+abbrev spending5 : ℕ → ℕ
+spending5 = spending 2199023255551 1
+
+-- thresholds 10,000 and 50,000 with such an allowance each, and buckets 0 to `gap` and 50,000 to 1,000,000
+abbrev two : ℕ → ℕ → Plan
+two allowance gap = record {
+  count = 2;
+  buckets = 2;
+  delay = 1000;
+  horizon = 200;
+  thresholds = 10000 ∷ 50000 ∷ replicate 8 0;
+  allowances = allowance ∷ allowance ∷ replicate 8 0;
+  left = 0 ∷ 50000 ∷ replicate 14 0;
+  right = gap ∷ 1000000 ∷ replicate 14 0;
+}
+
+-- ten draws taken, and the two thresholds so marked
+abbrev so : Mark → Mark → State
+so m k = record {
+  n = 10;
+  ones = 1;
+  records = record { mark = m; walked = startRecord .walked } ∷ record { mark = k; walked = startRecord .walked } ∷ replicate 8 startRecord;
+}
+
+-- the upper and the lower boundary of step t
+abbrev boundaries : ℕ → (ℕ → ℕ) → ℕ → List ℤ
+boundaries a E t = pos (walk a E t .upper) ∷ lower (walk a E t) ∷ []
+
+unfoldable pub computed : List (List ℤ)
+computed =
+    -- P1
+    (pos (spendingF 1) ∷ pos (spendingF 1000) ∷ [])
+    -- P2
+    ∷ boundaries thresholdF spendingF 1
+    ∷ boundaries thresholdF spendingF 2
+    ∷ boundaries thresholdF spendingF 3
+    ∷ boundaries thresholdF spendingF 4
+    ∷ boundaries thresholdF spendingF 5
+    -- P3
+    ∷ (pos (walk thresholdF spendingF 1 .mass 0) ∷ pos (walk thresholdF spendingF 1 .mass 1) ∷ [])
+    -- P4
+    ∷ map pos (newMasses 400000 (M ∷ []))
+    ∷ (pos (sum (newMasses 400000 (M ∷ []))) ∷ [])
+    -- P5
+    ∷ (pos (spending5 1) ∷ pos (spending5 2) ∷ [])
+    -- P6
+    ∷ boundaries 400000 spending5 1
+    ∷ boundaries 400000 spending5 2
+    ∷ boundaries 400000 spending5 3
+    -- P7: low and high
+    ∷ (pos (lowOf (two 4398046511 50000) (so (Above 5) Open)) ∷ pos (highOf (two 4398046511 50000) (so (Above 5) Open)) ∷ [])
+    -- P8: the word
+    ∷ map pos (wordOf (answerOf (two 4398046511 50000) (so (AtMost 5) (Above 5))))
+    -- P9
+    ∷ (pos (planRefusal (two 2199023255552 50000)) ∷ [])
+    -- P10
+    ∷ (pos (planRefusal (two 4398046511 10000)) ∷ [])
+    ∷ []
+
+unfoldable pub printed : List (List ℤ)
+printed =
+    -- P1
+    (pos 4393652 ∷ pos 2199023255 ∷ [])
+    -- P2
+    ∷ (pos 2 ∷ negsuc 0 ∷ [])
+    ∷ (pos 3 ∷ negsuc 0 ∷ [])
+    ∷ (pos 4 ∷ negsuc 0 ∷ [])
+    ∷ (pos 5 ∷ negsuc 0 ∷ [])
+    ∷ (pos 5 ∷ negsuc 0 ∷ [])
+    -- P3
+    ∷ (pos 4178144185549 ∷ pos 219902325556 ∷ [])
+    -- P4
+    ∷ (pos 2638827906663 ∷ pos 1759218604442 ∷ [])
+    ∷ (pos 4398046511105 ∷ [])
+    -- P5
+    ∷ (pos 1099511627775 ∷ pos 1466015503700 ∷ [])
+    -- P6
+    ∷ (pos 2 ∷ negsuc 0 ∷ [])
+    ∷ (pos 2 ∷ negsuc 0 ∷ [])
+    ∷ (pos 2 ∷ pos 0 ∷ [])
+    -- P7
+    ∷ (pos 10000 ∷ pos 1000000 ∷ [])
+    -- P8: crossed
+    ∷ (pos 99 ∷ pos 114 ∷ pos 111 ∷ pos 115 ∷ pos 115 ∷ pos 101 ∷ pos 100 ∷ [])
+    -- P9
+    ∷ (pos 3 ∷ [])
+    -- P10
+    ∷ (pos 6 ∷ [])
+    ∷ []

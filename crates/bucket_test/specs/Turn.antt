@@ -1,0 +1,60 @@
+-- One threshold in a draw (01, "Taking a draw"), and what refusal 11 asks of one.
+use mathlib.Core.Bool.{Bool}
+use mathlib.Core.List.{List}
+use Prim.Native.Nat.{ℕ}
+use lib.IntN.{pos}
+use lib.ListN.{getD}
+use lib.Signed.{leZ}
+use Rattle.walk.specs.Numbers.{le?}
+use Rattle.walk.specs.Row.{Row, startRow, stepRow}
+use Rattle.walk.specs.Strings.{judged}
+use Rattle.walk.specs.Record.{rowOf, recordOf, padded}
+use Rattle.walk.specs.Soundness.{isSound, Steppable}
+use Rattle.walk.specs.declared.Mark.{Mark}
+use Rattle.walk.specs.declared.Mark.the-variants.{Open, Above, AtMost}
+use Rattle.walk.specs.declared.Walked.{Walked}
+use Rattle.bucket_test.specs.Tests.{within}
+use Rattle.bucket_test.specs.declared.Threshold.{Threshold}
+use Rattle.bucket_test.specs.declared.State.{State}
+
+-- an open record with the boundaries of step 0; the record of a refused beginning, zeros in every number
+unfoldable pub startRecord : Threshold
+startRecord = record { mark = Open; walked = recordOf startRow }
+
+abbrev pub noRecord : Threshold
+noRecord = record { mark = Open; walked = record { lower = pos 0; upper = 0; over = 0; under = 0 } }
+
+-- the record at place i
+abbrev pub recordAt : State → ℕ → Threshold
+recordAt s i = getD (s .records) i noRecord
+
+-- S at or over the upper boundary of step n marks it above, S at or under the lower one at most, else it stays open
+unfoldable pub marked : ℕ → ℕ → Walked → Mark
+marked n S w = judged n (le? (w .upper) S) (leZ (pos S) (w .lower))
+
+-- the turn of one threshold at draw n with S ones, e = E(n): an open one walks one step, a settled one and its part stay
+module _ (a e n S : ℕ) where
+  unfoldable pub walkedOn : Row → Threshold
+  walkedOn r = record { mark = marked n S (recordOf r); walked = recordOf r }
+
+  abbrev pub turnRecord : Mark → Threshold → List ℕ → Threshold
+  turnRecord Open t part = walkedOn (stepRow a e (rowOf (t .walked) part))
+  turnRecord (Above u) t part = t
+  turnRecord (AtMost u) t part = t
+
+  abbrev pub turnPart : Mark → Threshold → List ℕ → List ℕ
+  turnPart Open t part = padded (stepRow a e (rowOf (t .walked) part) .masses)
+  turnPart (Above u) t part = part
+  turnPart (AtMost u) t part = part
+
+-- what a turn asks of an open threshold: that its walk can go one step on
+abbrev pub MayTurn : ℕ → ℕ → Mark → Threshold → List ℕ → Type 0
+MayTurn a e Open t part = Steppable a e (t .walked) part
+MayTurn a e (Above u) t part = Unit
+MayTurn a e (AtMost u) t part = Unit
+
+-- refusal 11, of one threshold after n draws with S ones, e = E(n): a settled mark's step is from 1 to n; an open one is sound
+abbrev pub recordSound : ℕ → ℕ → ℕ → Mark → Threshold → List ℕ → Bool
+recordSound e n S Open t part = isSound e n S (t .walked) part
+recordSound e n S (Above u) t part = within 1 n u
+recordSound e n S (AtMost u) t part = within 1 n u

@@ -1,0 +1,156 @@
+// Interval and answer of a state (01, "Taking a draw").
+
+use crate::Answer;
+use crate::Plan;
+use crate::State;
+use crate::Threshold;
+use walk::Mark;
+use walk::soundness::is_wide;
+ghost use mathlib.Core.Path.{_≡_};
+ghost use mathlib.Core.Bool.{_&&_};
+ghost use Prim.Native.Nat.{_≤_, max, min};
+ghost use Rattle.walk.specs.Numbers.{le?, only, choose};
+ghost use Rattle.walk.specs.Units.{million};
+ghost use Rattle.walk.specs.Strings.{Upper, Lower, isOn, isOpen};
+ghost use Rattle.walk.specs.Record.{isWide};
+ghost use Rattle.bucket_test.specs.Answers.{lowOf, highOf, anyWide, contains, firstBucket, answerOf};
+
+// The interval from low to high, in millionths.
+pub struct Interval {
+    pub low: u32,
+    pub high: u32,
+}
+
+// A threshold t with the mark m narrows the interval.
+fn narrowed(v: Interval, m: Mark, t: u32) -> Interval
+    requires { ⌜ v .high ≤ million ⌝ }
+    ensures { λ r. ⌜ (r .low ≡ max (v .low) (only (isOn Upper m) t)) × (r .high ≡ min (v .high) (choose (isOn Lower m) t million)) ⌝ }
+{
+    match m {
+        Mark::Open => v,
+        Mark::Above(_) => {
+            if t > v.low {
+                Interval {
+                    low: t,
+                    high: v.high,
+                }
+            } else {
+                v
+            }
+        }
+        Mark::AtMost(_) => {
+            if t < v.high {
+                Interval {
+                    low: v.low,
+                    high: t,
+                }
+            } else {
+                v
+            }
+        }
+    }
+}
+
+// The interval of a state. For this crate only: an accepted plan has no more thresholds.
+pub fn interval_of(p: Plan, s: State) -> Interval
+    requires { ⌜ p .count ≤ 10 ⌝ }
+    ensures { λ r. ⌜ (r .low ≡ lowOf p s) × (r .high ≡ highOf p s) ⌝ }
+{
+    let count = p.count as usize;
+    let thresholds = p.thresholds;
+    let records = s.records;
+    let mut v = Interval {
+        low: 0,
+        high: 1000000,
+    };
+    let mut i = 0;
+    while i < count {
+        let r = records[i];
+        let m = r.mark;
+        v = narrowed(v, m, thresholds[i]);
+        i += 1;
+    }
+    v
+}
+
+// An open threshold that is wide.
+fn open_and_wide(t: Threshold) -> bool
+    ensures { λ r. ⌜ r ≡ (isOpen (t .mark) && isWide (t .walked)) ⌝ }
+{
+    let m = t.mark;
+    let w = t.walked;
+    match m {
+        Mark::Open => is_wide(w),
+        Mark::Above(_) => false,
+        Mark::AtMost(_) => false,
+    }
+}
+
+// Whether an open threshold is wide. For this crate only.
+pub fn any_wide(p: Plan, s: State) -> bool
+    requires { ⌜ p .count ≤ 10 ⌝ }
+    ensures { λ r. ⌜ r ≡ anyWide p s ⌝ }
+{
+    let count = p.count as usize;
+    let records = s.records;
+    let mut i = 0;
+    while i < count {
+        let r = records[i];
+        if open_and_wide(r) {
+            return true;
+        }
+        i += 1;
+    }
+    false
+}
+
+// A bucket from left to right contains the interval from low to high.
+fn holds_interval(left: u32, right: u32, low: u32, high: u32) -> bool
+    ensures { λ r. ⌜ r ≡ (le? left low && le? high right) ⌝ }
+{
+    if left <= low {
+        return high <= right;
+    }
+    false
+}
+
+// The place of the first bucket that contains the interval, or the number of buckets. For this crate only.
+pub fn first_bucket(p: Plan, low: u32, high: u32) -> u32
+    requires { ⌜ p .buckets ≤ 16 ⌝ }
+    ensures { λ r. ⌜ r ≡ firstBucket p low high ⌝ }
+{
+    let buckets = p.buckets;
+    let left = p.left;
+    let right = p.right;
+    let mut j: u32 = 0;
+    while j < buckets {
+        let at = j as usize;
+        if holds_interval(left[at], right[at], low, high) {
+            return j;
+        }
+        j += 1;
+    }
+    j
+}
+
+// The first answer that fits. For this crate only: the plan is accepted.
+pub fn answer_of(p: Plan, s: State) -> Answer
+    requires { ⌜ (p .count ≤ 10) × (p .buckets ≤ 16) ⌝ }
+    ensures { λ r. ⌜ r ≡ answerOf p s ⌝ }
+{
+    let v = interval_of(p, s);
+    if v.low > v.high {
+        return Answer::Crossed;
+    }
+    let j = first_bucket(p, v.low, v.high);
+    if j < p.buckets {
+        return Answer::Decided(j + 1);
+    }
+    if any_wide(p, s) {
+        return Answer::Wide;
+    }
+    if s.n == p.horizon {
+        return Answer::Spent;
+    }
+    Answer::Open
+}

@@ -1,0 +1,187 @@
+// A beginning, a draw, a run of draws, and the answer to a state (01, "Words lent to a test", "Taking a draw", "Order").
+
+use crate::Answer;
+use crate::Drawn;
+use crate::Plan;
+use crate::Report;
+use crate::State;
+use crate::answering::answer_of;
+use crate::answering::interval_of;
+use crate::judging::state_sound;
+use crate::plan_check::plan_refusal;
+use crate::starting::no_state;
+use crate::starting::start_parts;
+use crate::starting::start_state;
+use crate::turning::turn_all;
+ghost use mathlib.Core.Path.{_≡_};
+ghost use mathlib.Core.Bool.{true, false};
+ghost use Prim.Native.Nat.{_*_, _≤_};
+ghost use lib.ListN.{length};
+ghost use Rattle.walk.specs.Units.{wide};
+ghost use Rattle.bucket_test.specs.Plan.{planRefusal};
+ghost use Rattle.bucket_test.specs.Answers.{answerOf, isEnding, goesOn};
+ghost use Rattle.bucket_test.specs.Draw.{drawnOf, begun, stateSound, nextState, nextWords, drawn, report, drawnAll};
+
+// A refusal by its number, with a state.
+fn refused(number: u32, s: State) -> Drawn
+    ensures { λ r. ⌜ r ≡ record { answer = Answer.Refused number; state = s } ⌝ }
+{
+    let answer = Answer::Refused(number);
+    Drawn {
+        answer: answer,
+        state: s,
+    }
+}
+
+// Beginning: every part is written, unless the plan or the number of words is refused (01, refusals 1 to 6 and 8). Any plan and any
+// words may be handed in.
+pub fn begin(p: Plan, words: &mut [u64]) -> Drawn
+    ensures { λ r. ⌜ (r ≡ drawnOf (begun p (now (words .entry)))) × (now (words .exit) ≡ begun p (now (words .entry)) .words) ⌝ }
+{
+    let bad = plan_refusal(p);
+    if bad > 0 {
+        return refused(bad, no_state());
+    }
+    let parts = p.count as usize;
+    if words.len() != 769 * parts {
+        return refused(8, no_state());
+    }
+    start_parts(words, parts);
+    let state = start_state();
+    let answer = answer_of(p, state);
+    Drawn {
+        answer: answer,
+        state: state,
+    }
+}
+
+// Whether an answer ends the test.
+fn ends(a: Answer) -> bool
+    ensures { λ r. ⌜ r ≡ isEnding a ⌝ }
+{
+    match a {
+        Answer::Open => false,
+        Answer::Decided(_) => true,
+        Answer::Crossed => true,
+        Answer::Wide => true,
+        Answer::Spent => true,
+        Answer::Refused(_) => false,
+    }
+}
+
+// n and S rise, and each threshold has its turn. For this crate only: nothing refuses the draw.
+fn take_one(p: Plan, s: State, words: &mut [u64], d: u8) -> State
+    requires { ⌜
+        (planRefusal p ≡ 0)
+        × (length (now words) ≡ wide * p .count)
+        × (d ≤ 1)
+        × (isEnding (answerOf p s) ≡ false)
+        × (stateSound p s (now words) ≡ true)
+        ⌝ }
+    ensures { λ r. ⌜ (r ≡ nextState p s (now (words .entry)) d) × (now (words .exit) ≡ nextWords p s (now (words .entry)) d) ⌝ }
+{
+    let n = s.n + 1;
+    let ones = s.ones + d as u32;
+    let before = s.records;
+    let records = turn_all(p, before, words, n, ones);
+    State {
+        n: n,
+        ones: ones,
+        records: records,
+    }
+}
+
+// A draw, judged by plan, 8, 9, 10 and 11 in this order (01, "Order"). Any plan, state, words and draw may be handed in; a refusal hands
+// back the state it was given.
+pub fn draw(p: Plan, s: State, words: &mut [u64], d: u8) -> Drawn
+    ensures { λ r. ⌜ (r ≡ drawnOf (drawn p s (now (words .entry)) d)) × (now (words .exit) ≡ drawn p s (now (words .entry)) d .words) ⌝ }
+{
+    let bad = plan_refusal(p);
+    if bad > 0 {
+        return refused(bad, s);
+    }
+    let count = p.count as usize;
+    if words.len() != 769 * count {
+        return refused(8, s);
+    }
+    if d > 1 {
+        return refused(9, s);
+    }
+    let before = answer_of(p, s);
+    if ends(before) {
+        return refused(10, s);
+    }
+    if !state_sound(p, s, &words[..]) {
+        return refused(11, s);
+    }
+    let state = take_one(p, s, words, d);
+    let answer = answer_of(p, state);
+    Drawn {
+        answer: answer,
+        state: state,
+    }
+}
+
+// The answer to a state as it stands, with its interval. Any plan and any state may be handed in.
+pub fn report_on(p: Plan, s: State) -> Report
+    ensures { λ r. ⌜ r ≡ report p s ⌝ }
+{
+    let bad = plan_refusal(p);
+    if bad > 0 {
+        let no = Answer::Refused(bad);
+        return Report {
+            answer: no,
+            low: 0,
+            high: 0,
+        };
+    }
+    let answer = answer_of(p, s);
+    let v = interval_of(p, s);
+    Report {
+        answer: answer,
+        low: v.low,
+        high: v.high,
+    }
+}
+
+// Whether an answer is `open`.
+fn is_open(a: Answer) -> bool
+    ensures { λ r. ⌜ r ≡ goesOn a ⌝ }
+{
+    match a {
+        Answer::Open => true,
+        Answer::Decided(_) => false,
+        Answer::Crossed => false,
+        Answer::Wide => false,
+        Answer::Spent => false,
+        Answer::Refused(_) => false,
+    }
+}
+
+// A run of draws: as many as are answered `open`, and the first that is not. Where all are, or there is none, the answer is that of the
+// state as it stands.
+pub fn draw_all(p: Plan, s: State, words: &mut [u64], draws: &[u8]) -> Drawn
+    ensures { λ r. ⌜
+        (r ≡ drawnOf (drawnAll p s (now (words .entry)) (now (draws .entry))))
+        × (now (words .exit) ≡ drawnAll p s (now (words .entry)) (now (draws .entry)) .words)
+        ⌝ }
+{
+    let mut state = s;
+    let mut i = 0;
+    while i < draws.len() {
+        let drawn = draw(p, state, words, draws[i]);
+        let answer = drawn.answer;
+        if !is_open(answer) {
+            return drawn;
+        }
+        let next = drawn.state;
+        state = next;
+        i += 1;
+    }
+    let last = report_on(p, state);
+    let answer = last.answer;
+    Drawn {
+        answer: answer,
+        state: state,
+    }
+}

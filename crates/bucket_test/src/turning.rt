@@ -1,0 +1,86 @@
+// The turns of the thresholds in a draw (01, "Taking a draw").
+
+use crate::Plan;
+use crate::Threshold;
+use walk::Mark;
+use walk::Walked;
+use walk::spending::spending_at;
+use walk::step::step;
+ghost use mathlib.Core.Path.{_≡_};
+ghost use Prim.Native.Nat.{ℕ, _*_, _≤_, _<_};
+ghost use lib.ListN.{length, getD};
+ghost use Rattle.walk.specs.Units.{wide, horizonLimit};
+ghost use Rattle.bucket_test.specs.Tests.{overTo, joinTo};
+ghost use Rattle.bucket_test.specs.Plan.{thresholdAt, spendingOf, planRefusal};
+ghost use Rattle.bucket_test.specs.Words.{partAt};
+ghost use Rattle.bucket_test.specs.Turn.{noRecord, marked, turnRecord, turnPart, MayTurn};
+
+// The mark after step n: S at or over the upper boundary, at or under the lower one, or neither. Of any boundaries: S is compared with
+// the lower one in 64 bits.
+fn mark_of(w: Walked, n: u32, ones: u32) -> Mark
+    ensures { λ r. ⌜ r ≡ marked n ones w ⌝ }
+{
+    if ones >= w.upper {
+        return Mark::Above(n);
+    }
+    if ones as i64 <= w.lower as i64 {
+        return Mark::AtMost(n);
+    }
+    Mark::Open
+}
+
+// The turn of one threshold a at draw n, with e = E(n): an open one walks one step, a settled one and its part stay.
+fn turn(t: Threshold, part: &mut [u64], a: u32, e: u64, n: u32, ones: u32) -> Threshold
+    requires { ⌜ MayTurn a e (t .mark) t (now part) ⌝ }
+    ensures { λ r. ⌜
+        (r ≡ turnRecord a e n ones (t .mark) t (now (part .entry)))
+        × (now (part .exit) ≡ turnPart a e n ones (t .mark) t (now (part .entry)))
+        ⌝ }
+{
+    let mark = t.mark;
+    match mark {
+        Mark::Open => {
+            let before = t.walked;
+            let walked = step(part, before, a, e);
+            let now = mark_of(walked, n, ones);
+            Threshold {
+                mark: now,
+                walked: walked,
+            }
+        }
+        Mark::Above(_) => t,
+        Mark::AtMost(_) => t,
+    }
+}
+
+// The turns of the first K thresholds at draw n, each with its own part of the words; the records past K stay. For this crate only: a
+// draw has judged the plan, the words and the state.
+pub fn turn_all(
+    p: Plan,
+    records: [Threshold; 10],
+    words: &mut [u64],
+    n: u32,
+    ones: u32,
+) -> [Threshold; 10]
+    requires { ⌜
+        (planRefusal p ≡ 0)
+        × (length (now words) ≡ wide * p .count)
+        × (n ≤ horizonLimit)
+        × ((i : ℕ) → i < p .count → MayTurn (thresholdAt p i) (spendingOf p i n) (getD records i noRecord .mark) (getD records i noRecord) (partAt i (now words)))
+        ⌝ }
+    ensures { λ r. ⌜
+        (r ≡ overTo (p .count) (λ i t. turnRecord (thresholdAt p i) (spendingOf p i n) n ones (t .mark) t (partAt i (now (words .entry)))) records)
+        × (now (words .exit) ≡ joinTo (p .count) (λ i. turnPart (thresholdAt p i) (spendingOf p i n) n ones (getD records i noRecord .mark) (getD records i noRecord) (partAt i (now (words .entry)))))
+        ⌝ }
+{
+    let count = p.count as usize;
+    let mut next = records;
+    for i in 0..count {
+        let t = next[i];
+        let a = p.thresholds[i];
+        let e = spending_at(p.allowances[i], p.delay, n);
+        let at = 769 * i;
+        next[i] = turn(t, &mut words[at..at + 769], a, e, n, ones);
+    }
+    next
+}
