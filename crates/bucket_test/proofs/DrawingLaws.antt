@@ -13,13 +13,11 @@ use Rattle.walk.specs.Numbers.{le?, lt?}
 use Rattle.walk.specs.Units.{million, wide, horizonLimit}
 use Rattle.walk.specs.Spending.{IsSpending}
 use Rattle.walk.specs.Strings.{isOpen}
-use Rattle.walk.specs.Record.{rowOf, recordOf, isWide}
-use Rattle.walk.specs.Soundness.{isSound}
+use Rattle.walk.specs.Record.{isWide}
 use Rattle.walk.specs.declared.Mark.{Mark}
 use Rattle.walk.specs.declared.Mark.the-variants.{Open, Above, AtMost}
-use Rattle.walk.specs.declared.Walked.{Walked}
 use Rattle.walk.proofs.Tests.{and-true, le?-sound, le?-complete, le?-fails}
-use Rattle.walk.proofs.Checks.{wide-record, checked, steppable}
+use Rattle.walk.proofs.Checks.{steppable}
 use Rattle.bucket_test.specs.Tests.{eq?, overTo, joinTo}
 use Rattle.bucket_test.specs.Plan.{thresholdAt, spendingOf, planRefusal, Accepted}
 use Rattle.bucket_test.specs.Words.{partAt, wordsFit}
@@ -39,25 +37,11 @@ use Rattle.bucket_test.proofs.TurningLaws.{part-length}
 
 -- ---- a threshold that refusal 11 lets through and that is not wide may have its turn
 
-module _ (E : ℕ → ℕ) (n s : ℕ) (w : Walked) (words : List ℕ) (size : length words ≡ wide) (sound : isSound (E n) n s w words ≡ true) where
-  same-walked : recordOf (rowOf w words) ≡ w
-  unfolding recordOf rowOf
-  same-walked =
-      let c = checked E n s w words size sound in
-      λ i. record { lower = sym (c .signed) i; upper = sym (c .upper-is) i; over = w .over; under = w .under }
-
-  narrow : isWide w ≡ false → length (rowOf w words .masses) < wide
-  unfolding wide
-  narrow h =
-      let c = checked E n s w words size sound in
-      let d = eqb-false (suc (length (rowOf w words .masses))) 770 (sym (wide-record (rowOf w words)) ∙ ap isWide same-walked ∙ h) in
-      omega (arith, c .fits, d)
-
 may-turn-by : (E : ℕ → ℕ) (n S a : ℕ) → a ≤ million → IsSpending E → n < horizonLimit
     → (t : Threshold) (part : List ℕ) → length part ≡ wide
     → (m : Mark) → recordSound (E n) n S m t part ≡ true → (isOpen m && isWide (t .walked)) ≡ false → MayTurn a (E (suc n)) m t part
 may-turn-by E n S a threshold spends early t part size Open sound thin =
-    steppable E n S (t .walked) part size a threshold spends early (narrow E n S (t .walked) part size sound thin) sound
+    steppable E n S (t .walked) part size a threshold spends early thin sound
 may-turn-by E n S a threshold spends early t part size (Above u) sound thin = tt
 may-turn-by E n S a threshold spends early t part size (AtMost u) sound thin = tt
 

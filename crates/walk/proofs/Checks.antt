@@ -4,7 +4,7 @@ use mathlib.Core.Bool.{Bool, true, false, _&&_}
 use mathlib.Core.List.{List, _++_}
 use Prim.Native.Nat.{ℕ, suc, _+_, _-_, _≤_, _<_}
 use native.Mathlib.Omega.{arith}
-use borrow.Author.Tests.{leb-true, le-leb}
+use borrow.Author.Tests.{leb-true, le-leb, eqb-false}
 use lib.Dec.{leb, eqb}
 use lib.IntN.{ℤ, pos, negsuc, _-ℤ_}
 use lib.ListN.{length, take, replicate, length-append, length-replicate}
@@ -132,18 +132,31 @@ module _ (E : ℕ → ℕ) (n s : ℕ) (w : Walked) (words : List ℕ) (size : l
         };
       }
 
-  -- what a step asks, unless the row is wide
-  pub steppable : (a : ℕ) → a ≤ million → IsSpending E → n < horizonLimit → length (rowOf w words .masses) < wide → isSound (E n) n s w words ≡ true
+  -- the record and the words hold the row and nothing else
+  pub record-back : isSound (E n) n s w words ≡ true → recordOf (rowOf w words) ≡ w
+  unfolding recordOf rowOf
+  record-back h =
+      let c = checked h in
+      λ i. record { lower = sym (c .signed) i; upper = sym (c .upper-is) i; over = w .over; under = w .under }
+
+  narrow : isSound (E n) n s w words ≡ true → isWide w ≡ false → length (rowOf w words .masses) < wide
+  unfolding wide
+  narrow h thin =
+      let d = eqb-false (suc (length (rowOf w words .masses))) 770 (sym (wide-record (rowOf w words)) ∙ ap isWide (record-back h) ∙ thin) in
+      omega (arith, checked h .fits, d)
+
+  -- what a step asks, of a record that is not wide
+  pub steppable : (a : ℕ) → a ≤ million → IsSpending E → n < horizonLimit → isWide w ≡ false → isSound (E n) n s w words ≡ true
       → Steppable a (E (suc n)) w words
   unfolding rowOf
-  steppable a threshold spends early narrow h =
+  steppable a threshold spends early thin h =
       let c = checked h in
       record {
         threshold = threshold;
         half = spends .half (suc n);
         size = size;
         signed = c .signed;
-        narrow = omega (arith, c .upper-is);
+        narrow = omega (arith, c .upper-is, narrow h thin);
         early = omega (arith, c .upper-is, c .sound .top);
         small = c .small;
         sound = allowed-next a threshold E spends n (rowOf w words) (c .sound);

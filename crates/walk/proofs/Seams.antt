@@ -6,11 +6,11 @@ use mathlib.Core.List.{List, [], _∷_, _++_}
 use Prim.Native.Nat.{ℕ, zero, suc, _+_, _-_, _≤_, _<_}
 use native.Mathlib.Nat.{eq-or-lt-of-le, le-of-lt}
 use native.Mathlib.Omega.{arith}
-use lib.IntN.{pos}
+use lib.IntN.{pos, negsuc}
 use lib.ListN.{length, getD, replicate}
 use lib.Signed.{leZ}
 use Rattle.walk.specs.Numbers.{le?, lt?, eqZ?}
-use Rattle.walk.specs.Units.{million, wide}
+use Rattle.walk.specs.Units.{M, million, wide}
 use Rattle.walk.specs.Spending.{IsSpending}
 use Rattle.walk.specs.Walk.{below, lower, walk, firstAt, upperAt, NoWideBefore}
 use Rattle.walk.specs.Row.{Row, upper, startRow, stepRow, rows}
@@ -21,6 +21,15 @@ use Rattle.walk.specs.declared.Mark.{Mark}
 use Rattle.walk.proofs.Tests.{test, Le?, le, gt, clash}
 use Rattle.walk.proofs.Boundaries.{under-below}
 use Rattle.walk.proofs.Agreement.{at-add, same, first-at, upper-at, not-wide}
+
+-- step 0, as the code holds it
+pub start-record : recordOf startRow ≡ record { lower = negsuc 0; upper = 1; over = 0; under = 0 }
+unfolding recordOf startRow below
+start-record = refl
+
+pub start-words : padded (startRow .masses) ≡ 4398046511104 ∷ replicate 768 0
+unfolding padded startRow M wide
+start-words = refl
 
 -- step 0 is not wide
 pub start-not-wide : isWide (recordOf startRow) ≡ false

@@ -6,9 +6,8 @@ use native.Mathlib.Omega.{arith}
 use borrow.Author.Fill.{fill-more}
 use lib.ListN.{length, drop, replicate}
 use lib.Seq.{drop-length}
-use Rattle.walk.specs.Units.{M, wide}
-use Rattle.walk.specs.Row.{startRow}
-use Rattle.walk.specs.Record.{padded}
+use Rattle.walk.specs.Units.{wide}
+use Rattle.walk.proofs.Seams.{start-words}
 use borrow.Author.Needs.{needs}
 use Rattle.bucket_test.proofs.starting.start_part.Statement.{statement}
 use Rattle.bucket_test.proofs.starting.start_part.Tie as tie
@@ -48,14 +47,14 @@ same-length : tie.Need-same-length Inv-loop μ-loop
 same-length c = search needs
 
 returns : tie.Need-returns Inv-loop μ-loop
-unfolding padded startRow M wide
+unfolding wide
 returns c =
     let l = c .before .loop in
     let w = c .before .before .args .part .now in
     let n : length w ≡ 769 = c .before .before .pre in
     let e : l .i ≡ length w = omega arith in
     let zeros : l .part ≡ replicate 769 0 = l .inv .3 ∙ rw (e, drop-length w, append-nil, n) in
-    rw zeros
+    rw (zeros, start-words)
 
 pub start-part-spec : {M : Type 1} → statement M
 start-part-spec =
