@@ -34,10 +34,9 @@ same-length c = search needs
 
 returns : tie.Need-returns Inv-loop μ-loop
 returns c =
-    let a = c .before .before .before .before .before .before .before .before .before .before .before .args in
     let l = c .before .before .before .before .before .before .before .before .loop in
     let e = c .before .before .before .before .draw .ensures in
-    run-stops (a .p) (l .state) (l .words) (a .draws .now) (l .i) _ (l .inv .2) (omega arith) _ _ (e .0) (e .1) (failed (c .before .is-open .ensures) (c .if1 .taken))
+    run-stops _ _ _ _ _ _ (l .inv .2) (c .before .before .before .before .before .before .before .loop-test .taken) _ _ (e .0) (e .1) (failed (c .before .is-open .ensures) (c .if1 .taken))
 
 add-i : tie.Need-add-i Inv-loop μ-loop
 add-i c = search needs
@@ -47,12 +46,11 @@ loop-less c = search needs
 
 loop-again : tie.Need-loop-again Inv-loop μ-loop
 loop-again c =
-    let a = c .before .before .before .before .before .before .before .before .before .before .before .before .args in
     let l = c .before .before .before .before .before .before .before .before .before .loop in
     let e = c .before .before .before .before .before .draw .ensures in (
       omega arith,
       search needs,
-      run-on (a .p) (l .state) (l .words) (a .draws .now) (l .i) _ (l .inv .2) (omega arith) _ _ (e .0) (e .1) (passed (c .before .before .is-open .ensures) (c .before .if1 .left)),
+      run-on _ _ _ _ _ _ (l .inv .2) (c .before .before .before .before .before .before .before .before .loop-test .taken) _ _ (e .0) (e .1) (passed (c .before .before .is-open .ensures) (c .before .if1 .left)),
     )
 
 report-on-requires : tie.Need-report-on-requires Inv-loop μ-loop
@@ -63,9 +61,8 @@ same-length-2 c = search needs
 
 returns-2 : tie.Need-returns-2 Inv-loop μ-loop
 returns-2 c =
-    let a = c .before .before .before .before .before .args in
     let l = c .before .before .loop in
-    run-end (a .p) (l .state) (l .words) (a .draws .now) (l .i) _ (l .inv .2) (omega arith) (c .report-on .result) (c .report-on .ensures)
+    run-end _ _ _ _ _ _ (l .inv .2) (c .before .loop-test .left) _ (c .report-on .ensures)
 
 pub draw-all-spec : {M : Type 1} → statement M
 draw-all-spec =

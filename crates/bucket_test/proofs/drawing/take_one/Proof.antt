@@ -11,9 +11,8 @@ use Rattle.bucket_test.proofs.drawing.take_one.Tie as tie
 -- S is at most n, and n below the limit
 room : (c : tie.Start) → (c .args .s .ones ≤ c .args .s .n) × (c .args .s .n < horizonLimit)
 room c =
-    let a = c .args in
     let h = c .pre in
-    (ones-fit (a .p) (a .s) (a .words .now) (h .0) (h .1) (h .3) (h .4), early (a .p) (a .s) (a .words .now) (h .0) (h .1) (h .3) (h .4))
+    (ones-fit _ _ _ (h .0) (h .1) (h .3) (h .4), early _ _ _ (h .0) (h .1) (h .3) (h .4))
 
 add-n : tie.Need-add-n
 unfolding horizonLimit
@@ -27,7 +26,7 @@ turn-all-requires : tie.Need-turn-all-requires
 turn-all-requires c κs =
     let a = c .before .before .before .before .before .args in
     let h = c .before .before .before .before .before .pre in
-    (h .0, h .1, omega (arith, room (c .before .before .before .before .before)), rw (add-one (a .s .n)) (all-may-turn (a .p) (a .s) (a .words .now) (h .0) (h .1) (h .3) (h .4)))
+    (h .0, h .1, omega (arith, room (c .before .before .before .before .before)), rw (add-one (a .s .n)) (all-may-turn _ _ _ (h .0) (h .1) (h .3) (h .4)))
 
 same-length : tie.Need-same-length
 same-length c = search needs
@@ -37,7 +36,7 @@ returns c =
     let a = c .before .before .before .before .before .before .before .before .args in
     let e = c .before .before .turn-all .ensures in
     let n = add-one (a .s .n) in
-    (next-state (a .p) (a .s) (a .words .now) (a .d) _ n _ (e .0), next-words (a .p) (a .s) (a .words .now) (a .d) _ n _ (e .1))
+    (next-state _ _ _ _ _ n _ (e .0), next-words _ _ _ _ _ n _ (e .1))
 
 pub take-one-spec : {M : Type 1} → statement M
 take-one-spec = tie.close (tie.spec add-n add-ones turn-all-requires same-length returns)

@@ -1,0 +1,104 @@
+-- Accepted bytes are the form of the plan that they hold. Assumes nothing.
+use mathlib.Core.Path.{_≡_, sym, ap, _∙_}
+use mathlib.Core.List.{List, _++_}
+use Prim.Native.Nat.{ℕ, zero, suc, _+_, _*_, _≤_, _<_}
+use native.Mathlib.Nat.{mul-zero, mul-suc}
+use native.Mathlib.Omega.{arith}
+use lib.ListN.{length, take, drop}
+use lib.Seq.{drop-drop, take-add, take-all}
+use Rattle.bucket_test.specs.Tests.{joinTo}
+use Rattle.bucket_test.specs.Plan.{thresholdAt, allowanceAt, leftAt, rightAt}
+use Rattle.bucket_test.proofs.PlaceLists.{join-cong}
+use Rattle.stored_plan.specs.Little.{toLE, field, Bytes}
+use Rattle.stored_plan.specs.Form.{headerSize, bucketOffset, formSize, header, thresholdEntries, bucketEntries, encoded}
+use Rattle.stored_plan.specs.Reading.{countIn, bucketsIn, planIn, readRefusal}
+use Rattle.stored_plan.proofs.LittleLaws.{to-field}
+use Rattle.stored_plan.proofs.FormLaws.{header-fits}
+use Rattle.stored_plan.proofs.ReadingLaws.{filled-get}
+use Rattle.stored_plan.proofs.Refusals.{Offsets, Sized, readable}
+
+module _ (bytes : List ℕ) where
+  -- so many bytes from an offset on
+  unfoldable part : ℕ → ℕ → List ℕ
+  part at n = take n (drop at bytes)
+
+  part-join : (at m n : ℕ) → part at m ++ part (at + m) n ≡ part at (m + n)
+  unfolding part
+  part-join at m n = rw (← drop-drop m at bytes) (sym (take-add m n (drop at bytes)))
+
+  part-all : (n : ℕ) → length bytes ≡ n → part 0 n ≡ bytes
+  unfolding part
+  part-all n e = take-all n bytes (omega arith)
+
+  -- entries that are parts, joined
+  parts-join : (at size n : ℕ) → joinTo n (λ i. part (at + size * i) size) ≡ part at (size * n)
+  unfolding joinTo part
+  parts-join at size zero = rw (mul-zero size)
+  parts-join at size (suc n) = rw (parts-join at size n, mul-suc size n) (part-join at (size * n) size)
+
+  -- a field's number, as bytes
+  module _ (each : Bytes bytes) where
+    field-part : (width at : ℕ) → at + width ≤ length bytes → toLE width (field width at bytes) ≡ part at width
+    unfolding part
+    field-part = to-field bytes each
+
+    -- a plan's form, part by part
+    module _ (k : countIn bytes ≤ 10) (b : bucketsIn bytes ≤ 16) (o : Offsets bytes) (z : Sized bytes) where
+      header-part : header (planIn bytes) ≡ part 0 headerSize
+      unfolding header planIn countIn bucketsIn
+      header-part =
+          let h : headerSize ≤ length bytes = rw z (header-fits (countIn bytes) (bucketsIn bytes)) in
+          let first : toLE 2 headerSize ≡ part 4 2 = ap (toLE 2) (sym (o .0)) ∙ field-part 2 4 (omega arith) in
+          let second : toLE 2 (bucketOffset (countIn bytes)) ≡ part 6 2 = ap (toLE 2) (sym (o .1)) ∙ field-part 2 6 (omega arith) in
+          rw (
+            field-part 2 0 (omega arith),
+            field-part 2 2 (omega arith),
+            first,
+            second,
+            field-part 4 8 (omega arith),
+            field-part 4 12 (omega arith),
+            part-join 8 4 4,
+            part-join 6 2 8,
+            part-join 4 2 10,
+            part-join 2 2 12,
+          ) (part-join 0 2 14)
+
+      entry-part : (i : ℕ) → i < countIn bytes → toLE 4 (thresholdAt (planIn bytes) i) ++ toLE 8 (allowanceAt (planIn bytes) i) ≡ part (headerSize + 12 * i) 12
+      unfolding planIn formSize bucketOffset
+      entry-part i l =
+          rw (
+            filled-get 10 (countIn bytes) (λ i. field 4 (headerSize + 12 * i) bytes) k i l,
+            filled-get 10 (countIn bytes) (λ i. field 8 (headerSize + 12 * i + 4) bytes) k i l,
+            field-part 4 (headerSize + 12 * i) (omega arith),
+            field-part 8 (headerSize + 12 * i + 4) (omega arith),
+          ) (part-join (headerSize + 12 * i) 4 8)
+
+      ends-part : (j : ℕ) → j < bucketsIn bytes → toLE 4 (leftAt (planIn bytes) j) ++ toLE 4 (rightAt (planIn bytes) j) ≡ part (bucketOffset (countIn bytes) + 8 * j) 8
+      unfolding planIn formSize
+      ends-part j l =
+          let at = bucketOffset (countIn bytes) + 8 * j in
+          rw (
+            filled-get 16 (bucketsIn bytes) (λ j. field 4 (bucketOffset (countIn bytes) + 8 * j) bytes) b j l,
+            filled-get 16 (bucketsIn bytes) (λ j. field 4 (bucketOffset (countIn bytes) + 8 * j + 4) bytes) b j l,
+            field-part 4 at (omega arith),
+            field-part 4 (at + 4) (omega arith),
+          ) (part-join at 4 4)
+
+      form-whole : encoded (planIn bytes) ≡ bytes
+      unfolding encoded thresholdEntries bucketEntries formSize bucketOffset planIn
+      form-whole =
+          let kc = countIn bytes in
+          let bc = bucketsIn bytes in
+          rw (
+            header-part,
+            join-cong kc _ (λ i. part (headerSize + 12 * i) 12) entry-part,
+            join-cong bc _ (λ j. part (bucketOffset kc + 8 * j) 8) ends-part,
+            parts-join headerSize 12 kc,
+            parts-join (bucketOffset kc) 8 bc,
+            part-join headerSize (12 * kc) (8 * bc),
+            part-join 0 headerSize (12 * kc + 8 * bc),
+          ) (part-all (headerSize + (12 * kc + 8 * bc)) (omega arith))
+
+    pub bytes-back : readRefusal bytes ≡ 0 → encoded (planIn bytes) ≡ bytes
+    unfolding planIn
+    bytes-back e = let s = readable bytes .0 e in form-whole (s .1 .0 .0 .1) (s .1 .0 .1 .1) (s .1 .1 .0) (s .1 .1 .1 .0)

@@ -1,0 +1,87 @@
+-- Little-endian numbers: what is written is read, what is read is written, and fields of joined lists (specs/Little). Assumes nothing.
+use mathlib.Core.Path.{_≡_, refl, ap, ap₂, _∙_}
+use mathlib.Core.List.{List, [], _∷_, _++_, append-nil}
+use mathlib.Core.Logic.{⊎-elim}
+use Prim.Native.Nat.{ℕ, zero, suc, _+_, _*_, _/_, _%_, _<_, _≤_, _^_}
+use native.Mathlib.Nat.{mod-add-div, mod-eq-of-lt, div-lt-iff-lt-mul, add-mul-div-left, div-eq-of-lt, add-mul-mod-self-left, pow-suc, pow-le-pow-right}
+use native.Mathlib.Omega.{arith}
+use lib.ListN.{length, take, drop, getD, length-take, length-drop, List·getD-eq-default}
+use lib.Seq.{drop-cons, getD-take, getD-drop, length-take-le, take-append-le, drop-append-le, drop-append-add, take-at}
+use Rattle.bucket_test.proofs.PlaceLaws.{le-or-lt}
+use Rattle.stored_plan.specs.Little.{toLE, fromLE, field, Bytes}
+
+pub to-length : (width v : ℕ) → length (toLE width v) ≡ width
+unfolding toLE
+to-length zero v = refl
+to-length (suc width) v = ap suc (to-length width (v / 256))
+
+-- what is written is read
+pub from-to : (width v : ℕ) → v < 256 ^ width → fromLE (toLE width v) ≡ v
+unfolding toLE fromLE
+from-to zero v h = omega arith
+from-to (suc width) v h =
+    let e = from-to width (v / 256) (div-lt-iff-lt-mul (omega arith) .1 (rw (pow-suc 256 width) at h)) in
+    rw (e, mod-add-div v 256)
+
+-- what is read is written
+pub to-from : (bs : List ℕ) → Bytes bs → toLE (length bs) (fromLE bs) ≡ bs
+unfolding toLE fromLE
+to-from [] h = refl
+to-from (b ∷ bs) h =
+    let low : (b + 256 * fromLE bs) % 256 ≡ b = add-mul-mod-self-left b 256 (fromLE bs) ∙ mod-eq-of-lt (h 0) in
+    let high : (b + 256 * fromLE bs) / 256 ≡ fromLE bs = add-mul-div-left b (fromLE bs) {y = 256} (omega arith) ∙ rw (div-eq-of-lt (h 0)) (omega arith) in
+    ap₂ _∷_ low (ap (toLE (length bs)) high ∙ to-from bs (λ i. h (suc i)))
+
+-- a field that is read, as bytes
+module _ (bytes : List ℕ) (each : Bytes bytes) (width at : ℕ) where
+  field-bytes : Bytes (take width (drop at bytes))
+  field-bytes i = ⊎-elim past (λ h. rw (getD-take width (drop at bytes) i 0 h, getD-drop at bytes i 0) (each (at + i))) (le-or-lt width i)
+    where
+      past : width ≤ i → getD (take width (drop at bytes)) i 0 < 256
+      past h = rw (List·getD-eq-default (take width (drop at bytes)) 0 {n = i} (omega (arith, length-take width (drop at bytes)))) (omega arith)
+
+  pub to-field : at + width ≤ length bytes → toLE width (field width at bytes) ≡ take width (drop at bytes)
+  unfolding field
+  to-field h =
+      let l : length (take width (drop at bytes)) ≡ width = length-take-le width (drop at bytes) (omega (arith, length-drop at bytes)) in
+      rw l at (to-from (take width (drop at bytes)) field-bytes)
+
+-- ---- one byte more, at the low end
+
+pub more-lt : (m v b : ℕ) → v < 256 ^ m → b < 256 → v * 256 + b < 256 ^ suc m
+more-lt m v b h g = rw (pow-suc 256 m) (omega arith)
+
+pub pow-le : (m n : ℕ) → m ≤ n → 256 ^ m ≤ 256 ^ n
+pow-le m n h = pow-le-pow-right {n = 256} (omega arith) {i = m} {j = n} h
+
+pub from-cons : (bytes : List ℕ) (at width i : ℕ) → i < width → at + width ≤ length bytes
+    → fromLE (drop i (take width (drop at bytes))) ≡ fromLE (drop (suc i) (take width (drop at bytes))) * 256 + getD bytes (at + i) 0
+unfolding fromLE
+from-cons bytes at width i h g =
+    let l = take width (drop at bytes) in
+    let len : length l ≡ width = length-take-le width (drop at bytes) (omega (arith, length-drop at bytes)) in
+    let e = drop-cons l i 0 (omega arith) ∙ ap (λ (b : ℕ). b ∷ drop (suc i) l) (getD-take width (drop at bytes) i 0 h ∙ getD-drop at bytes i 0) in
+    ap fromLE e ∙ omega arith
+
+-- ---- fields of joined lists
+
+module _ (width at : ℕ) (xs ys : List ℕ) where
+  pub field-left : at + width ≤ length xs → field width at (xs ++ ys) ≡ field width at xs
+  unfolding field
+  field-left h =
+      rw (drop-append-le at xs ys (omega arith), take-append-le width (drop at xs) ys (omega (arith, length-drop at xs)))
+
+  pub field-right : (m : ℕ) → length xs ≡ m → field width (m + at) (xs ++ ys) ≡ field width at ys
+  unfolding field
+  field-right m e = rw (← e, drop-append-add xs ys at)
+
+-- behind a number of so many bytes; at one
+pub field-next : (width at m v : ℕ) (ys : List ℕ) → field width (m + at) (toLE m v ++ ys) ≡ field width at ys
+field-next width at m v ys = field-right width at (toLE m v) ys m (to-length m v)
+
+pub field-here : (width v : ℕ) (ys : List ℕ) → v < 256 ^ width → field width 0 (toLE width v ++ ys) ≡ v
+unfolding field
+field-here width v ys h = rw (take-at (toLE width v) ys width (to-length width v)) (from-to width v h)
+
+pub field-last : (width v : ℕ) → v < 256 ^ width → field width 0 (toLE width v) ≡ v
+field-last width v h = rw append-nil at (field-here width v [] h)

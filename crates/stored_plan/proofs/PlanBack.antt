@@ -1,0 +1,196 @@
+-- An accepted plan's form is read back: the plan with zeros past its counts. Assumes nothing.
+use mathlib.Core.Path.{_≡_, refl, sym, _∙_}
+use mathlib.Core.List.{List, [], _++_, append-assoc, append-nil}
+use mathlib.Core.Logic.{inl, inr}
+use Prim.Native.Nat.{ℕ, suc, _+_, _*_, _≤_, _<_}
+use native.Mathlib.Omega.{arith}
+use lib.ListN.{length, length-append}
+use Rattle.walk.specs.Units.{million, allowanceLimit, horizonLimit}
+use Rattle.bucket_test.specs.Plan.{thresholdAt, allowanceAt, leftAt, rightAt, Permitted, Covered, Accepted}
+use Rattle.bucket_test.specs.declared.Plan.{Plan}
+use Rattle.bucket_test.proofs.Rules.{accepted}
+use Rattle.stored_plan.specs.Little.{toLE, field}
+use Rattle.stored_plan.specs.Form.{headerSize, bucketOffset, header, thresholdEntries, bucketEntries, encoded}
+use Rattle.stored_plan.specs.Reading.{filled, countIn, bucketsIn, planIn, readRefusal}
+use Rattle.stored_plan.specs.RoundTrip.{Same}
+use Rattle.stored_plan.proofs.LittleLaws.{field-right, field-next, field-here, field-last}
+use Rattle.stored_plan.proofs.FormLaws.{two-length, join-field, header-length, thresholds-length, encoded-length, header-fits}
+use Rattle.stored_plan.proofs.ReadingLaws.{filled-length, filled-get, filled-past, filled-cong}
+use Rattle.stored_plan.proofs.Refusals.{readable}
+
+-- the plan with zeros past its counts
+unfoldable pub counted : Plan → Plan
+counted p = record {
+  count = p .count;
+  buckets = p .buckets;
+  delay = p .delay;
+  horizon = p .horizon;
+  thresholds = filled 10 (p .count) (thresholdAt p);
+  allowances = filled 10 (p .count) (allowanceAt p);
+  left = filled 16 (p .buckets) (leftAt p);
+  right = filled 16 (p .buckets) (rightAt p);
+}
+
+-- ---- it is the same plan, and accepted
+
+pub same : (p : Plan) → p .count ≤ 10 → p .buckets ≤ 16 → Same p (counted p)
+unfolding counted
+same p k b = record {
+  counts = (refl, refl);
+  times = (refl, refl);
+  entries = λ i l. (filled-get 10 (p .count) (thresholdAt p) k i l, filled-get 10 (p .count) (allowanceAt p) k i l);
+  ends = λ j l. (filled-get 16 (p .buckets) (leftAt p) b j l, filled-get 16 (p .buckets) (rightAt p) b j l);
+  entries-past = λ i l. (filled-past 10 (p .count) (thresholdAt p) i l, filled-past 10 (p .count) (allowanceAt p) i l);
+  ends-past = λ j l. (filled-past 16 (p .buckets) (leftAt p) j l, filled-past 16 (p .buckets) (rightAt p) j l);
+  places = (
+    filled-length 10 (p .count) (thresholdAt p),
+    filled-length 10 (p .count) (allowanceAt p),
+    filled-length 16 (p .buckets) (leftAt p),
+    filled-length 16 (p .buckets) (rightAt p),
+  );
+}
+
+-- what is the same plan in its counted places is accepted with it
+module _ (p q : Plan) (s : Same p q) where
+  permits : (e : ℕ) → Permitted p e → Permitted q e
+  permits e (inl z) = inl z
+  permits e (inr (inl z)) = inr (inl z)
+  permits e (inr (inr (i, l, z))) = inr (inr (i, rw (s .counts .0) l, z ∙ sym (s .entries i l .0)))
+
+  covers : Covered p → Covered q
+  unfolding Covered
+  covers c x y h k =
+      let t = c x y h k in
+      (t .0, rw (s .counts .1) (t .1), rw (s .ends (t .0) (t .1) .0, s .ends (t .0) (t .1) .1) (t .2))
+
+  pub same-accepted : Accepted p → Accepted q
+  same-accepted a = record {
+    count-range = rw (s .counts .0) (a .count-range);
+    buckets-range = rw (s .counts .1) (a .buckets-range);
+    threshold-range = λ i l. let k = rw (s .counts .0) at l in rw (s .entries i k .0) (a .threshold-range i k);
+    thresholds-rise = λ i l. let k = rw (s .counts .0) at l in rw (s .entries i (omega arith) .0, s .entries (suc i) k .0) (a .thresholds-rise i k);
+    allowance-range = λ i l. let k = rw (s .counts .0) at l in rw (s .entries i k .1) (a .allowance-range i k);
+    delay-range = rw (s .times .0) (a .delay-range);
+    horizon-range = rw (s .times .1) (a .horizon-range);
+    ends-order = λ j l. let k = rw (s .counts .1) at l in rw (s .ends j k .0, s .ends j k .1) (a .ends-order j k);
+    not-whole = λ j l. let k = rw (s .counts .1) at l in rw (s .ends j k .0, s .ends j k .1) (a .not-whole j k);
+    ends-permitted = λ j l.
+        let k = rw (s .counts .1) at l in
+        let t = a .ends-permitted j k in
+        rw (s .ends j k .0, s .ends j k .1) (permits (leftAt p j) (t .0), permits (rightAt p j) (t .1));
+    covered = covers (a .covered);
+  }
+
+-- ---- the form of an accepted plan, field by field
+
+module _ (p : Plan) (a : Accepted p) where
+  permitted-le : (e : ℕ) → Permitted p e → e ≤ 1000000
+  unfolding million
+  permitted-le e (inl z) = omega arith
+  permitted-le e (inr (inl z)) = omega arith
+  permitted-le e (inr (inr (i, l, z))) = omega (arith, a .threshold-range i l .1)
+
+  abbrev entry : ℕ → List ℕ
+  entry i = toLE 4 (thresholdAt p i) ++ toLE 8 (allowanceAt p i)
+
+  abbrev ends : ℕ → List ℕ
+  ends j = toLE 4 (leftAt p j) ++ toLE 4 (rightAt p j)
+
+  -- the fields of the header, one behind the other
+  unrolled : encoded p ≡ toLE 2 (p .count) ++ (toLE 2 (p .buckets) ++ (toLE 2 headerSize ++ (toLE 2 (bucketOffset (p .count)) ++ (toLE 4 (p .delay) ++ (toLE 4 (p .horizon) ++ (thresholdEntries p ++ bucketEntries p))))))
+  unfolding encoded header
+  unrolled = simp append-assoc
+
+  in-count : field 2 0 (encoded p) ≡ p .count
+  in-count = rw unrolled (field-here 2 (p .count) _ (omega (arith, a .count-range .1)))
+
+  in-buckets : field 2 2 (encoded p) ≡ p .buckets
+  in-buckets = rw unrolled (field-next 2 0 2 (p .count) _ ∙ field-here 2 (p .buckets) _ (omega (arith, a .buckets-range .1)))
+
+  in-first : field 2 4 (encoded p) ≡ headerSize
+  in-first = rw unrolled (field-next 2 2 2 (p .count) _ ∙ field-next 2 0 2 (p .buckets) _ ∙ field-here 2 headerSize _ (omega arith))
+
+  in-second : field 2 6 (encoded p) ≡ bucketOffset (p .count)
+  unfolding bucketOffset
+  in-second =
+      rw unrolled
+      (field-next 2 4 2 (p .count) _ ∙ field-next 2 2 2 (p .buckets) _ ∙ field-next 2 0 2 headerSize _
+      ∙ field-here 2 (bucketOffset (p .count)) _ (omega (arith, a .count-range .1)))
+
+  in-delay : field 4 8 (encoded p) ≡ p .delay
+  in-delay =
+      rw unrolled
+      (field-next 4 6 2 (p .count) _ ∙ field-next 4 4 2 (p .buckets) _ ∙ field-next 4 2 2 headerSize _
+      ∙ field-next 4 0 2 (bucketOffset (p .count)) _ ∙ field-here 4 (p .delay) _ (omega (arith, a .delay-range .1)))
+
+  in-horizon : field 4 12 (encoded p) ≡ p .horizon
+  unfolding horizonLimit
+  in-horizon =
+      rw unrolled
+      (field-next 4 10 2 (p .count) _ ∙ field-next 4 8 2 (p .buckets) _ ∙ field-next 4 6 2 headerSize _
+      ∙ field-next 4 4 2 (bucketOffset (p .count)) _ ∙ field-next 4 0 4 (p .delay) _ ∙ field-here 4 (p .horizon) _ (omega (arith, a .horizon-range .1)))
+
+  -- a field of entry i, of bucket j
+  in-entry : (i width o at : ℕ) → i < p .count → o + width ≤ 12 → at ≡ headerSize + (12 * i + o) → field width at (encoded p) ≡ field width o (entry i)
+  unfolding encoded thresholdEntries
+  in-entry i width o at l h e =
+      rw e
+      (field-right width (12 * i + o) (header p) (thresholdEntries p ++ bucketEntries p) headerSize (header-length p)
+      ∙ join-field entry 12 (λ k. two-length 4 (thresholdAt p k) 8 (allowanceAt p k)) (p .count) (bucketEntries p) i width o l h)
+
+  in-ends : (j width o at : ℕ) → j < p .buckets → o + width ≤ 8 → at ≡ bucketOffset (p .count) + (8 * j + o) → field width at (encoded p) ≡ field width o (ends j)
+  unfolding encoded bucketEntries bucketOffset
+  in-ends j width o at l h e =
+      let before : length (header p ++ thresholdEntries p) ≡ bucketOffset (p .count) = omega (arith, length-append (header p) (thresholdEntries p), header-length p, thresholds-length p) in
+      rw (e, ← append-assoc (header p) (thresholdEntries p) (bucketEntries p))
+      (field-right width (8 * j + o) (header p ++ thresholdEntries p) (bucketEntries p) (bucketOffset (p .count)) before
+      ∙ rw append-nil at (join-field ends 8 (λ k. two-length 4 (leftAt p k) 4 (rightAt p k)) (p .buckets) [] j width o l h))
+
+  in-threshold : (i : ℕ) → i < p .count → field 4 (headerSize + 12 * i) (encoded p) ≡ thresholdAt p i
+  in-threshold i l =
+      in-entry i 4 0 (headerSize + 12 * i) l (omega arith) (omega arith)
+      ∙ field-here 4 (thresholdAt p i) (toLE 8 (allowanceAt p i)) (omega (arith, a .threshold-range i l .1))
+
+  in-allowance : (i : ℕ) → i < p .count → field 8 (headerSize + 12 * i + 4) (encoded p) ≡ allowanceAt p i
+  unfolding allowanceLimit
+  in-allowance i l =
+      in-entry i 8 4 (headerSize + 12 * i + 4) l (omega arith) (omega arith)
+      ∙ field-next 8 0 4 (thresholdAt p i) (toLE 8 (allowanceAt p i)) ∙ field-last 8 (allowanceAt p i) (omega (arith, a .allowance-range i l .1))
+
+  in-left : (j : ℕ) → j < p .buckets → field 4 (bucketOffset (p .count) + 8 * j) (encoded p) ≡ leftAt p j
+  in-left j l =
+      in-ends j 4 0 (bucketOffset (p .count) + 8 * j) l (omega arith) (omega arith)
+      ∙ field-here 4 (leftAt p j) (toLE 4 (rightAt p j)) (omega (arith, permitted-le (leftAt p j) (a .ends-permitted j l .0)))
+
+  in-right : (j : ℕ) → j < p .buckets → field 4 (bucketOffset (p .count) + 8 * j + 4) (encoded p) ≡ rightAt p j
+  in-right j l =
+      in-ends j 4 4 (bucketOffset (p .count) + 8 * j + 4) l (omega arith) (omega arith)
+      ∙ field-next 4 0 4 (leftAt p j) (toLE 4 (rightAt p j)) ∙ field-last 4 (rightAt p j) (omega (arith, permitted-le (rightAt p j) (a .ends-permitted j l .1)))
+
+  -- ---- the plan that its form holds
+
+  pub plan-back : planIn (encoded p) ≡ counted p
+  unfolding planIn countIn bucketsIn counted
+  plan-back =
+      rw (
+        in-count,
+        in-buckets,
+        in-delay,
+        in-horizon,
+        filled-cong 10 (p .count) _ (thresholdAt p) in-threshold,
+        filled-cong 10 (p .count) _ (allowanceAt p) in-allowance,
+        filled-cong 16 (p .buckets) _ (leftAt p) in-left,
+        filled-cong 16 (p .buckets) _ (rightAt p) in-right,
+      )
+
+  pub form-read : readRefusal (encoded p) ≡ 0
+  unfolding countIn bucketsIn
+  form-read =
+      let q = same-accepted p (counted p) (same p (a .count-range .1) (a .buckets-range .1)) a in
+      readable (encoded p) .1 (
+        rw (encoded-length p) (header-fits (p .count) (p .buckets)),
+        (
+          rw plan-back (q .count-range, q .buckets-range),
+          ((in-first, rw in-count in-second), (rw (in-count, in-buckets) (encoded-length p), rw plan-back (accepted (counted p) .1 q))),
+        ),
+      )

@@ -1,0 +1,42 @@
+-- Bytes put at an offset, one run behind the other (specs/Little, putAt). Assumes nothing.
+use mathlib.Core.Path.{_≡_, sym, ap, ap₂, _∙_}
+use mathlib.Core.List.{List, [], _++_, append-assoc}
+use Prim.Native.Nat.{ℕ, _+_, _≤_}
+use native.Mathlib.Omega.{arith}
+use lib.ListN.{length, take, drop, length-append, take-append-drop}
+use lib.Seq.{sets, sets-eq, take-at, drop-drop, drop-append-add, length-take-le}
+use Rattle.stored_plan.specs.Little.{putAt}
+
+module _ (at : ℕ) where
+  -- a run of stores
+  pub put-sets : (xs bytes : List ℕ) → at + length xs ≤ length bytes → sets bytes at xs ≡ putAt at xs bytes
+  unfolding putAt
+  put-sets xs bytes h = sets-eq xs bytes at h ∙ append-assoc (take at bytes) xs (drop (at + length xs) bytes)
+
+  pub put-none : (bytes : List ℕ) → putAt at [] bytes ≡ bytes
+  unfolding putAt
+  put-none bytes = let z : at + 0 ≡ at = omega arith in rw (z, take-append-drop)
+
+  pub put-put : (xs ys bytes : List ℕ) (m : ℕ) → at ≤ length bytes → m ≡ at + length xs → putAt m ys (putAt at xs bytes) ≡ putAt at (xs ++ ys) bytes
+  unfolding putAt
+  put-put xs ys bytes m h e =
+      let p = take at bytes in
+      let d = drop (at + length xs) bytes in
+      let len : length (p ++ xs) ≡ m = length-append p xs ∙ omega (arith, length-take-le at bytes h) in
+      let sum : at + length xs + length ys ≡ at + length (xs ++ ys) = omega (arith, length-append xs ys) in
+      let whole : p ++ (xs ++ d) ≡ (p ++ xs) ++ d = sym (append-assoc p xs d) in
+      let front : take m (p ++ (xs ++ d)) ≡ p ++ xs = ap (take m) whole ∙ take-at (p ++ xs) d m len in
+      let tail : drop (m + length ys) (p ++ (xs ++ d)) ≡ drop (at + length (xs ++ ys)) bytes =
+      ap (drop (m + length ys)) whole ∙ ap (λ (k : ℕ). drop (k + length ys) ((p ++ xs) ++ d)) (sym len) ∙ drop-append-add (p ++ xs) d (length ys)
+      ∙ drop-drop (length ys) (at + length xs) bytes ∙ ap (λ (k : ℕ). drop k bytes) sum in
+      ap₂ (λ (a r : List ℕ). a ++ (ys ++ r)) front tail ∙ append-assoc p xs (ys ++ drop (at + length (xs ++ ys)) bytes)
+      ∙ ap (λ (r : List ℕ). p ++ r) (sym (append-assoc xs ys (drop (at + length (xs ++ ys)) bytes)))
+
+  -- the same of lists that code handed on
+  pub then : (xs ys bytes bytes′ bytes″ : List ℕ) (m : ℕ) → bytes′ ≡ putAt at xs bytes → bytes″ ≡ putAt m ys bytes′ → at ≤ length bytes → m ≡ at + length xs
+      → bytes″ ≡ putAt at (xs ++ ys) bytes
+  then xs ys bytes bytes′ bytes″ m e f h g = f ∙ ap (putAt m ys) e ∙ put-put xs ys bytes m h g
+
+pub put-first : (xs bytes : List ℕ) → putAt 0 xs bytes ≡ xs ++ drop (length xs) bytes
+unfolding putAt
+put-first xs bytes = let z : 0 + length xs ≡ length xs = omega arith in rw z

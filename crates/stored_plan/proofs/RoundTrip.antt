@@ -1,0 +1,63 @@
+-- The statements of specs/RoundTrip hold. Assumes nothing.
+use mathlib.Core.Path.{_≡_, refl, sym, _∙_}
+use mathlib.Core.List.{List}
+use Prim.Native.Nat.{ℕ, zero, suc}
+use native.Mathlib.Omega.{arith}
+use lib.ListN.{drop}
+use lib.Seq.{take-at, drop-at}
+use Rattle.bucket_test.specs.declared.Plan.{Plan}
+use Rattle.bucket_test.proofs.Rules.{accepted}
+use Rattle.stored_plan.specs.Form.{bucketOffset, formSize, encoded}
+use Rattle.stored_plan.specs.Reading.{planIn, readRefusal, decodedBy, decoded}
+use Rattle.stored_plan.specs.Writing.{writeRefusal, writtenBy, written}
+use Rattle.stored_plan.specs.RoundTrip.{PlanBack, BytesBack, FormLength, AcceptedForms, FormWritten}
+use Rattle.stored_plan.proofs.FormLaws.{encoded-length}
+use Rattle.stored_plan.proofs.Refusals.{readable, decoded-none, written-none}
+use Rattle.stored_plan.proofs.PlanBack.{same, plan-back, form-read}
+use Rattle.stored_plan.proofs.BytesBack.{bytes-back}
+
+-- the refusal that is handed back is that of the reading, of the writing
+read-refusal : (bytes : List ℕ) → decoded bytes .refusal ≡ readRefusal bytes
+unfolding decoded
+read-refusal bytes = go (readRefusal bytes)
+  where
+    go : (r : ℕ) → decodedBy r bytes .refusal ≡ r
+    go zero = refl
+    go (suc r) = refl
+
+write-refusal : (p : Plan) (bytes : List ℕ) → written p bytes .refusal ≡ writeRefusal p bytes
+unfolding written
+write-refusal p bytes = go (writeRefusal p bytes)
+  where
+    go : (r : ℕ) → writtenBy r p .refusal ≡ r
+    go zero = refl
+    go (suc r) = refl
+
+pub plan-back-holds : PlanBack
+plan-back-holds p e =
+    let a = accepted p .0 e in
+    let d = decoded-none (encoded p) (form-read p a) in
+    rw (← d, plan-back p a) (refl, same p (a .count-range .1) (a .buckets-range .1))
+
+pub bytes-back-holds : BytesBack
+bytes-back-holds bytes each e =
+    let z = sym (read-refusal bytes) ∙ e in
+    rw (← decoded-none bytes z) (bytes-back bytes each z)
+
+pub form-length-holds : FormLength
+unfolding formSize bucketOffset
+form-length-holds p e =
+    let a = accepted p .0 e in
+    (encoded-length p, omega (arith, encoded-length p, a .count-range .1, a .buckets-range .1))
+
+pub accepted-forms-hold : AcceptedForms
+accepted-forms-hold bytes each = (
+  λ e. let z = sym (read-refusal bytes) ∙ e in (planIn bytes, readable bytes .0 z .1 .1 .1 .1, sym (bytes-back bytes each z)),
+  λ s. read-refusal bytes ∙ rw (s .2) (form-read (s .0) (accepted (s .0) .0 (s .1))),
+)
+
+pub form-written-holds : FormWritten
+form-written-holds p bytes e =
+    let w = written-none p bytes (sym (write-refusal p bytes) ∙ e) in
+    let n = encoded-length p in
+    rw (← w .0, ← w .1) (take-at (encoded p) (drop (formSize (p .count) (p .buckets)) bytes) _ n, drop-at (encoded p) (drop (formSize (p .count) (p .buckets)) bytes) _ n)

@@ -1,0 +1,29 @@
+-- `write_two` meets its contract: one run behind the other. Assumes nothing.
+use native.Mathlib.Omega.{arith}
+use borrow.Author.Needs.{needs}
+use Rattle.stored_plan.specs.Little.{toLE}
+use Rattle.stored_plan.proofs.LittleLaws.{to-length}
+use Rattle.stored_plan.proofs.Putting.{then}
+use Rattle.stored_plan.proofs.little.write_two.Statement.{statement}
+use Rattle.stored_plan.proofs.little.write_two.Tie as tie
+
+write-le-requires : tie.Need-write-le-requires
+write-le-requires c κs = search needs
+
+add-write-le : tie.Need-add-write-le
+add-write-le c = search needs
+
+write-le-requires-2 : tie.Need-write-le-requires-2
+write-le-requires-2 c κs = search needs
+
+same-length : tie.Need-same-length
+same-length c = search needs
+
+returns : tie.Need-returns
+returns c =
+    let a = c .before .before .before .before .before .before .before .before .before .args in
+    then (a .at) (toLE (a .first) (a .v)) (toLE (a .second) (a .w)) (a .bytes .now) _ _ _ (c .before .before .before .before .before .before .write-le .ensures)
+    (c .before .before .write-le2 .ensures) (omega arith) (rw (to-length (a .first) (a .v)))
+
+pub write-two-spec : {M : Type 1} → statement M
+write-two-spec = tie.close (tie.spec write-le-requires add-write-le write-le-requires-2 same-length returns)

@@ -1,0 +1,50 @@
+-- `form_refusal` meets its contract: past each test that passed, the refusal is the first of those left to judge. Assumes nothing.
+use mathlib.Core.Path.{sym, _∙_}
+use borrow.Author.Needs.{needs}
+use Rattle.bucket_test.proofs.PlaceLaws.{passed, failed}
+use Rattle.stored_plan.proofs.reading.form_refusal.Statement.{statement}
+use Rattle.stored_plan.proofs.reading.form_refusal.Tie as tie
+
+counts-fit-requires : tie.Need-counts-fit-requires
+counts-fit-requires c κs = search needs
+
+offsets-fit-requires : tie.Need-offsets-fit-requires
+offsets-fit-requires c κs = search needs
+
+length-fits-requires : tie.Need-length-fits-requires
+length-fits-requires c κs = search needs
+
+returns : tie.Need-returns
+returns c = rw (failed (c .before .before .before .counts-fit .ensures) (c .if1 .taken))
+
+returns-2 : tie.Need-returns-2
+returns-2 c =
+    rw (passed (c .before .before .before .before .counts-fit .ensures) (c .before .if1 .left), failed (c .before .before .before .offsets-fit .ensures) (c .if2 .taken))
+
+returns-3 : tie.Need-returns-3
+returns-3 c =
+    rw (
+      passed (c .before .before .before .before .before .counts-fit .ensures) (c .before .before .if1 .left),
+      passed (c .before .before .before .before .offsets-fit .ensures) (c .before .if2 .left),
+      sym (c .before .before .before .length-fits .ensures) ∙ c .if3 .taken,
+    )
+
+returns-4 : tie.Need-returns-4
+returns-4 c =
+    rw (
+      passed (c .before .before .before .before .before .counts-fit .ensures) (c .before .before .if1 .left),
+      passed (c .before .before .before .before .offsets-fit .ensures) (c .before .if2 .left),
+      sym (c .before .before .before .length-fits .ensures) ∙ c .if3 .left,
+    )
+
+pub form-refusal-spec : {M : Type 1} → statement M
+form-refusal-spec =
+    tie.close
+    (tie.spec
+    counts-fit-requires
+    offsets-fit-requires
+    length-fits-requires
+    returns
+    returns-2
+    returns-3
+    returns-4)

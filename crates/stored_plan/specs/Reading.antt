@@ -1,0 +1,75 @@
+-- Reading a stored plan: any bytes give a plan or a refusal (01, refusal 7, and "Order").
+use mathlib.Core.Bool.{Bool, _&&_}
+use mathlib.Core.List.{List, [], _∷_}
+use Prim.Native.Nat.{ℕ, zero, suc, _+_, _*_}
+use lib.ListN.{length, replicate}
+use Rattle.walk.specs.Numbers.{le?, lt?, only}
+use Rattle.bucket_test.specs.Tests.{eq?, unless, firstRefusal, overTo}
+use Rattle.bucket_test.specs.Plan.{rule1, planRefusal}
+use Rattle.bucket_test.specs.declared.Plan.{Plan}
+use Rattle.stored_plan.specs.Little.{field}
+use Rattle.stored_plan.specs.Form.{headerSize, bucketOffset, formSize}
+use Rattle.stored_plan.specs.declared.Read.{Read}
+
+-- `places` numbers: the first `count` of them as f says, zeros past the count
+unfoldable pub filled : ℕ → ℕ → (ℕ → ℕ) → List ℕ
+filled places count f = overTo places (λ i z. only (lt? i count) (f i)) (replicate places 0)
+
+module _ (bytes : List ℕ) where
+  -- the header's counts
+  unfoldable pub countIn : ℕ
+  countIn = field 2 0 bytes
+
+  unfoldable pub bucketsIn : ℕ
+  bucketsIn = field 2 2 bytes
+
+  -- the plan that the bytes hold, if they hold one
+  unfoldable pub planIn : Plan
+  planIn = record {
+    count = countIn;
+    buckets = bucketsIn;
+    delay = field 4 8 bytes;
+    horizon = field 4 12 bytes;
+    thresholds = filled 10 countIn (λ i. field 4 (headerSize + 12 * i) bytes);
+    allowances = filled 10 countIn (λ i. field 8 (headerSize + 12 * i + 4) bytes);
+    left = filled 16 bucketsIn (λ j. field 4 (bucketOffset countIn + 8 * j) bytes);
+    right = filled 16 bucketsIn (λ j. field 4 (bucketOffset countIn + 8 * j + 4) bytes);
+  }
+
+  unfoldable pub offsetsFit : Bool
+  offsetsFit = eq? (field 2 4 bytes) headerSize && eq? (field 2 6 bytes) (bucketOffset countIn)
+
+  unfoldable pub lengthFits : Bool
+  lengthFits = eq? (length bytes) (formSize countIn bucketsIn)
+
+  -- 7 for a length under 16, 1, 7 for offsets then total length, 2 to 6
+  unfoldable pub readRefusal : ℕ
+  readRefusal =
+      firstRefusal (
+      unless (le? headerSize (length bytes)) 7
+      ∷ unless (rule1 planIn) 1
+      ∷ unless offsetsFit 7
+      ∷ unless lengthFits 7
+      ∷ planRefusal planIn
+      ∷ []
+      )
+
+-- no plan: zeros in every number
+unfoldable pub noPlan : Plan
+noPlan = record {
+  count = 0;
+  buckets = 0;
+  delay = 0;
+  horizon = 0;
+  thresholds = replicate 10 0;
+  allowances = replicate 10 0;
+  left = replicate 16 0;
+  right = replicate 16 0;
+}
+
+abbrev pub decodedBy : ℕ → List ℕ → Read
+decodedBy zero bytes = record { refusal = 0; plan = planIn bytes }
+decodedBy (suc r) bytes = record { refusal = suc r; plan = noPlan }
+
+unfoldable pub decoded : List ℕ → Read
+decoded bytes = decodedBy (readRefusal bytes) bytes

@@ -1,0 +1,44 @@
+-- What is proved of plans and their forms, as statements (01, "The plan": stored form). The proofs are in proofs/RoundTrip.
+use mathlib.Core.List.{List}
+use mathlib.Core.Logic.{_↔_}
+use mathlib.Core.Path.{_≡_}
+use Prim.Native.Nat.{ℕ, _≤_, _<_}
+use lib.ListN.{length, take, drop}
+use Rattle.bucket_test.specs.Plan.{thresholdAt, allowanceAt, leftAt, rightAt, planRefusal}
+use Rattle.bucket_test.specs.declared.Plan.{Plan}
+use Rattle.stored_plan.specs.Little.{Bytes}
+use Rattle.stored_plan.specs.Form.{formSize, encoded}
+use Rattle.stored_plan.specs.Reading.{decoded}
+use Rattle.stored_plan.specs.Writing.{written, bytesAfter}
+
+-- q is p in its numbers and each counted place, and has zeros elsewhere
+pub record Same (p q : Plan) : Type 0 where
+  pub counts : (q .count ≡ p .count) × (q .buckets ≡ p .buckets)
+  pub times : (q .delay ≡ p .delay) × (q .horizon ≡ p .horizon)
+  pub entries : (i : ℕ) → i < p .count → (thresholdAt q i ≡ thresholdAt p i) × (allowanceAt q i ≡ allowanceAt p i)
+  pub ends : (j : ℕ) → j < p .buckets → (leftAt q j ≡ leftAt p j) × (rightAt q j ≡ rightAt p j)
+  pub entries-past : (i : ℕ) → p .count ≤ i → (thresholdAt q i ≡ 0) × (allowanceAt q i ≡ 0)
+  pub ends-past : (j : ℕ) → p .buckets ≤ j → (leftAt q j ≡ 0) × (rightAt q j ≡ 0)
+  pub places : (length (q .thresholds) ≡ 10) × (length (q .allowances) ≡ 10) × (length (q .left) ≡ 16) × (length (q .right) ≡ 16)
+
+-- an accepted plan's form is read, and is the plan
+abbrev pub PlanBack : Type 0
+PlanBack = (p : Plan) → planRefusal p ≡ 0 → (decoded (encoded p) .refusal ≡ 0) × Same p (decoded (encoded p) .plan)
+
+-- accepted bytes, read and written, are the same bytes
+abbrev pub BytesBack : Type 0
+BytesBack = (bytes : List ℕ) → Bytes bytes → decoded bytes .refusal ≡ 0 → encoded (decoded bytes .plan) ≡ bytes
+
+-- an accepted plan's form has the length that its counts say, at most 264
+abbrev pub FormLength : Type 0
+FormLength = (p : Plan) → planRefusal p ≡ 0 → (length (encoded p) ≡ formSize (p .count) (p .buckets)) × (length (encoded p) ≤ 264)
+
+-- reading accepts exactly the forms of accepted plans
+abbrev pub AcceptedForms : Type 0
+AcceptedForms = (bytes : List ℕ) → Bytes bytes → (decoded bytes .refusal ≡ 0) ↔ ((p : Plan) × (planRefusal p ≡ 0) × (bytes ≡ encoded p))
+
+-- of lent bytes, so many as are handed back are the form, and the others keep their contents
+abbrev pub FormWritten : Type 0
+FormWritten = (p : Plan) (bytes : List ℕ) → written p bytes .refusal ≡ 0
+    → (take (written p bytes .size) (bytesAfter p bytes) ≡ encoded p)
+    × (drop (written p bytes .size) (bytesAfter p bytes) ≡ drop (written p bytes .size) bytes)

@@ -1,0 +1,175 @@
+// Reading a stored plan: any bytes give a plan or a refusal (01, refusal 7, and "Order").
+ghost use mathlib.Core.Path.{_≡_};
+ghost use mathlib.Core.List.{[], _∷_};
+ghost use Prim.Native.Nat.{_+_, _*_, _≤_};
+ghost use lib.ListN.{length};
+ghost use Rattle.bucket_test.specs.Tests.{unless, firstRefusal};
+ghost use Rattle.bucket_test.specs.Plan.{rule1};
+ghost use Rattle.stored_plan.specs.Little.{field};
+ghost use Rattle.stored_plan.specs.Form.{headerSize, formSize};
+ghost use Rattle.stored_plan.specs.Reading.{filled, countIn, bucketsIn, planIn, offsetsFit, lengthFits, noPlan, decoded};
+use crate::Read;
+use crate::little::read_le;
+use crate::little::read_u32;
+use bucket_test::Plan;
+use bucket_test::plan_check::plan_refusal;
+
+// Rule 1 of the plan that the bytes hold.
+fn counts_fit(bytes: &[u8]) -> bool
+    requires { ⌜ headerSize ≤ length (now bytes) ⌝ }
+    ensures { λ r. ⌜ r ≡ rule1 (planIn (now (bytes .entry))) ⌝ }
+{
+    let count = read_u32(bytes, 0, 2);
+    let buckets = read_u32(bytes, 2, 2);
+    if count < 1 {
+        return false;
+    }
+    if 10 < count {
+        return false;
+    }
+    if buckets < 2 {
+        return false;
+    }
+    buckets <= 16
+}
+
+// The header's offsets are those of its counts (01, refusal 7).
+fn offsets_fit(bytes: &[u8]) -> bool
+    requires { ⌜ headerSize ≤ length (now bytes) ⌝ }
+    ensures { λ r. ⌜ r ≡ offsetsFit (now (bytes .entry)) ⌝ }
+{
+    let count = read_u32(bytes, 0, 2);
+    if read_u32(bytes, 4, 2) != 16 {
+        return false;
+    }
+    read_u32(bytes, 6, 2) == 16 + 12 * count
+}
+
+// The length is that of the header's counts (01, refusal 7).
+fn length_fits(bytes: &[u8]) -> bool
+    requires { ⌜ headerSize ≤ length (now bytes) ⌝ }
+    ensures { λ r. ⌜ r ≡ lengthFits (now (bytes .entry)) ⌝ }
+{
+    let count = read_le(bytes, 0, 2) as usize;
+    let buckets = read_le(bytes, 2, 2) as usize;
+    bytes.len() == 16 + 12 * count + 8 * buckets
+}
+
+// The refusal of a form that has a header, before its plan is judged: 1, 7 for offsets, 7 for the length.
+fn form_refusal(bytes: &[u8]) -> u32
+    requires { ⌜ headerSize ≤ length (now bytes) ⌝ }
+    ensures { λ r. ⌜ r ≡ firstRefusal (unless (rule1 (planIn (now (bytes .entry)))) 1 ∷ unless (offsetsFit (now (bytes .entry))) 7 ∷ unless (lengthFits (now (bytes .entry))) 7 ∷ []) ⌝ }
+{
+    let counts = counts_fit(bytes);
+    let offsets = offsets_fit(bytes);
+    let size = length_fits(bytes);
+    if !counts {
+        return 1;
+    }
+    if !offsets {
+        return 7;
+    }
+    if size { 0 } else { 7 }
+}
+
+// The thresholds of so many entries, at most ten; zeros past them.
+fn thresholds_in(bytes: &[u8], count: usize) -> [u32; 10]
+    requires { ⌜ (count ≤ 10) × (headerSize + 12 * count ≤ length (now bytes)) ⌝ }
+    ensures { λ r. ⌜ r ≡ filled 10 count (λ i. field 4 (headerSize + 12 * i) (now (bytes .entry))) ⌝ }
+{
+    let mut table = [0u32; 10];
+    for i in 0..count {
+        table[i] = read_u32(bytes, 16 + 12 * i, 4);
+    }
+    table
+}
+
+// The allowances of so many entries, at most ten; zeros past them.
+fn allowances_in(bytes: &[u8], count: usize) -> [u64; 10]
+    requires { ⌜ (count ≤ 10) × (headerSize + 12 * count ≤ length (now bytes)) ⌝ }
+    ensures { λ r. ⌜ r ≡ filled 10 count (λ i. field 8 (headerSize + 12 * i + 4) (now (bytes .entry))) ⌝ }
+{
+    let mut table = [0u64; 10];
+    for i in 0..count {
+        table[i] = read_le(bytes, 16 + 12 * i + 4, 8);
+    }
+    table
+}
+
+// One end of so many buckets, at most sixteen, from that of the first on; zeros past them.
+fn ends_in(bytes: &[u8], at: usize, buckets: usize) -> [u32; 16]
+    requires { ⌜ (buckets ≤ 16) × (at + 8 * buckets ≤ length (now bytes) + 4) ⌝ }
+    ensures { λ r. ⌜ r ≡ filled 16 buckets (λ j. field 4 (at + 8 * j) (now (bytes .entry))) ⌝ }
+{
+    let mut table = [0u32; 16];
+    for j in 0..buckets {
+        table[j] = read_u32(bytes, at + 8 * j, 4);
+    }
+    table
+}
+
+// The plan of a form that its counts and its length fit.
+fn plan_in(bytes: &[u8]) -> Plan
+    requires { ⌜ (countIn (now bytes) ≤ 10) × (bucketsIn (now bytes) ≤ 16) × (length (now bytes) ≡ formSize (countIn (now bytes)) (bucketsIn (now bytes))) ⌝ }
+    ensures { λ r. ⌜ r ≡ planIn (now (bytes .entry)) ⌝ }
+{
+    let count = read_u32(bytes, 0, 2);
+    let buckets = read_u32(bytes, 2, 2);
+    let delay = read_u32(bytes, 8, 4);
+    let horizon = read_u32(bytes, 12, 4);
+    let k = count as usize;
+    let b = buckets as usize;
+    let at = 16 + 12 * k;
+    let thresholds = thresholds_in(bytes, k);
+    let allowances = allowances_in(bytes, k);
+    let left = ends_in(bytes, at, b);
+    let right = ends_in(bytes, at + 4, b);
+    Plan {
+        count,
+        buckets,
+        delay,
+        horizon,
+        thresholds,
+        allowances,
+        left,
+        right,
+    }
+}
+
+// A refused reading: zeros in every number of the plan.
+fn refused(r: u32) -> Read
+    ensures { λ s. ⌜ s ≡ record { refusal = r; plan = noPlan } ⌝ }
+{
+    Read {
+        refusal: r,
+        plan: Plan {
+            count: 0,
+            buckets: 0,
+            delay: 0,
+            horizon: 0,
+            thresholds: [0; 10],
+            allowances: [0; 10],
+            left: [0; 16],
+            right: [0; 16],
+        },
+    }
+}
+
+// The plan that any bytes hold, or the refusal: 7 for a length under 16, then as `form_refusal` says, then the plan's.
+pub fn read_plan(bytes: &[u8]) -> Read
+    ensures { λ r. ⌜ r ≡ decoded (now (bytes .entry)) ⌝ }
+{
+    if bytes.len() < 16 {
+        return refused(7);
+    }
+    let form = form_refusal(bytes);
+    if form != 0 {
+        return refused(form);
+    }
+    let plan = plan_in(bytes);
+    let refusal = plan_refusal(plan);
+    if refusal != 0 {
+        return refused(refusal);
+    }
+    Read { refusal, plan }
+}
