@@ -2,12 +2,17 @@
 use mathlib.Core.Path.{sym, _∙_}
 use native.Mathlib.Omega.{arith}
 use borrow.Author.Needs.{needs}
+use Rattle.bucket_test.specs.Plan.{Accepted}
 use Rattle.bucket_test.proofs.Rules.{accepted}
 use Rattle.stored_plan.specs.Form.{bucketOffset, formSize}
 use Rattle.stored_plan.proofs.FormLaws.{put-form}
 use Rattle.stored_plan.proofs.Refusals.{written-none, written-some, plan-refused, no-room, room}
 use Rattle.stored_plan.proofs.writing.write_plan.Statement.{statement}
 use Rattle.stored_plan.proofs.writing.write_plan.Tie as tie
+
+-- a plan that is not refused keeps its places inside the arrays
+kept : (c : tie.Else1) → Accepted (c .before .before .before .args .p)
+kept c = accepted (c .before .before .before .args .p) .0 (sym (c .before .plan-refusal .ensures) ∙ c .if1 .left)
 
 plan-refusal-requires : tie.Need-plan-refusal-requires
 plan-refusal-requires c κs = search needs
@@ -44,21 +49,15 @@ returns-2 c =
     written-some (a .p) (a .bytes .now) 12 (λ e. omega arith) (no-room (a .p) (a .bytes .now) (r .result) (r .ensures) (c .before .before .before .if1 .left) (c .if2 .taken))
 
 write-header-requires : tie.Need-write-header-requires
-write-header-requires c κs =
-    let a = accepted (c .before .before .before .before .before .before .before .args .p) .0 (sym (c .before .before .before .before .before .plan-refusal .ensures) ∙ c .before .before .before .before .if1 .left) in
-    (a .count-range .1, omega arith)
+write-header-requires c κs = let a = kept (c .before .before .before .before) in (a .count-range .1, omega arith)
 
 write-thresholds-requires : tie.Need-write-thresholds-requires
 unfolding bucketOffset
-write-thresholds-requires c κs =
-    let a = accepted (c .before .before .before .before .before .before .before .before .before .before .before .args .p) .0 (sym (c .before .before .before .before .before .before .before .before .before .plan-refusal .ensures) ∙ c .before .before .before .before .before .before .before .before .if1 .left) in
-    (a .count-range .1, omega arith)
+write-thresholds-requires c κs = let a = kept (c .before .before .before .before .before .before .before .before) in (a .count-range .1, omega arith)
 
 write-buckets-requires : tie.Need-write-buckets-requires
 unfolding formSize bucketOffset
-write-buckets-requires c κs =
-    let a = accepted (c .before .before .before .before .before .before .before .before .before .before .before .before .before .before .before .args .p) .0 (sym (c .before .before .before .before .before .before .before .before .before .before .before .before .before .plan-refusal .ensures) ∙ c .before .before .before .before .before .before .before .before .before .before .before .before .if1 .left) in
-    (a .count-range .1, a .buckets-range .1, omega arith)
+write-buckets-requires c κs = let a = kept (c .before .before .before .before .before .before .before .before .before .before .before .before) in (a .count-range .1, a .buckets-range .1, omega arith)
 
 same-length : tie.Need-same-length
 same-length c = search needs
