@@ -1,0 +1,116 @@
+// The line that is printed (01, "The program").
+
+use bucket_test::Answer;
+use bucket_test::Report;
+use bucket_test::State;
+ghost use mathlib.Core.Path.{_≡_};
+ghost use mathlib.Core.List.{[], _∷_, _++_};
+ghost use Prim.Native.Nat.{_+_, _≤_};
+ghost use lib.ListN.{length, take};
+ghost use Rattle.io.specs.Counts.{Counts};
+ghost use Rattle.bucket_test.specs.Answers.{wordOf, bucketOf, refusalOf, valuesOf};
+ghost use Rattle.console.specs.Line.{decimal, lineOf};
+
+// Puts bytes at a place of the line, behind what stands before it, and answers the next place. For this crate only.
+fn put(out: &mut [u8], at: usize, bytes: &[u8]) -> usize
+    requires { ⌜ at + length (now bytes) ≤ length (now out) ⌝ }
+    ensures { λ r. ⌜
+        (r ≡ at + length (now (bytes .entry)))
+        × (take r (now (out .exit)) ≡ take at (now (out .entry)) ++ now (bytes .entry))
+        ⌝ }
+{
+    let mut i = 0;
+    while i < bytes.len() {
+        out[at + i] = bytes[i];
+        i += 1;
+    }
+    at + bytes.len()
+}
+
+// A space, and the number in decimal. For this crate only.
+fn put_number(out: &mut [u8], at: usize, number: u32) -> usize
+    requires { ⌜ at + 11 ≤ length (now out) ⌝ }
+    ensures { λ r. ⌜
+        (r ≤ at + 11)
+        × (take r (now (out .exit)) ≡ take at (now (out .entry)) ++ (32 ∷ decimal number))
+        ⌝ }
+{
+    let mut text = [0u8; 20];
+    let k = io::decimal(number as u64, &mut text);
+    let next = put(out, at, b" ");
+    put(out, next, &text[..k])
+}
+
+// The word of an answer begins the line. For this crate only.
+fn put_word(out: &mut [u8], a: Answer) -> usize
+    requires { ⌜ 7 ≤ length (now out) ⌝ }
+    ensures { λ r. ⌜ (r ≤ 7) × (take r (now (out .exit)) ≡ wordOf a) ⌝ }
+{
+    match a {
+        Answer::Open => put(out, 0, b"open"),
+        Answer::Decided(_) => put(out, 0, b"decided"),
+        Answer::Crossed => put(out, 0, b"crossed"),
+        Answer::Wide => put(out, 0, b"wide"),
+        Answer::Spent => put(out, 0, b"spent"),
+        Answer::Refused(_) => put(out, 0, b"refused"),
+    }
+}
+
+// The number of a refusal, 0 where there is none.
+fn refusal_of(a: Answer) -> u32
+    ensures { λ r. ⌜ r ≡ refusalOf a ⌝ }
+{
+    match a {
+        Answer::Open => 0,
+        Answer::Decided(_) => 0,
+        Answer::Crossed => 0,
+        Answer::Wide => 0,
+        Answer::Spent => 0,
+        Answer::Refused(number) => number,
+    }
+}
+
+// The number of the bucket, 0 unless decided.
+fn bucket_of(a: Answer) -> u32
+    ensures { λ r. ⌜ r ≡ bucketOf a ⌝ }
+{
+    match a {
+        Answer::Open => 0,
+        Answer::Decided(bucket) => bucket,
+        Answer::Crossed => 0,
+        Answer::Wide => 0,
+        Answer::Spent => 0,
+        Answer::Refused(_) => 0,
+    }
+}
+
+// `refused`, the number, and a newline.
+pub fn refused_line(number: u32, out: &mut [u8; 64]) -> usize
+    ensures { λ r. ⌜ Counts r (now (out .exit)) ⌝ }
+    ensures { λ r. ⌜ (r ≤ 64) × (take r (now (out .exit)) ≡ wordOf (Answer.Refused number) ++ (32 ∷ decimal number) ++ (10 ∷ [])) ⌝ }
+{
+    let a = Answer::Refused(number);
+    let at = put_word(out, a);
+    let end = put_number(out, at, number);
+    put(out, end, b"\n")
+}
+
+// The line of a report on a state, of any values.
+pub fn line_of(s: State, r: Report, out: &mut [u8; 64]) -> usize
+    ensures { λ n. ⌜ Counts n (now (out .exit)) ⌝ }
+    ensures { λ n. ⌜ (n ≤ 64) × (take n (now (out .exit)) ≡ lineOf (valuesOf s r)) ⌝ }
+{
+    let a = r.answer;
+    let number = refusal_of(a);
+    if number > 0 {
+        return refused_line(number, out);
+    }
+    let bucket = bucket_of(a);
+    let at = put_word(out, a);
+    let at1 = put_number(out, at, bucket);
+    let at2 = put_number(out, at1, s.n);
+    let at3 = put_number(out, at2, s.ones);
+    let at4 = put_number(out, at3, r.low);
+    let at5 = put_number(out, at4, r.high);
+    put(out, at5, b"\n")
+}

@@ -1,0 +1,802 @@
+//! Plans and inputs for the comparison, each from a seed and a place in the list.
+
+use crate::boundary::Slip;
+use crate::plan::read;
+use crate::rng::Rng;
+use crate::sequential::{Mark, Test};
+
+const LARGEST: u64 = crate::plan::LARGEST_ALLOWANCE as u64;
+
+/// A plan before it is stored; nothing in it need keep the rules.
+#[derive(Clone, Debug)]
+pub struct Draft {
+    pub thresholds: Vec<(u32, u64)>,
+    pub delay: u32,
+    pub horizon: u32,
+    pub buckets: Vec<(u32, u32)>,
+}
+
+impl Draft {
+    pub fn store(&self) -> Vec<u8> {
+        let k = self.thresholds.len();
+        let mut out = Vec::new();
+        for half in [k, self.buckets.len(), 16, 16 + 12 * k] {
+            out.extend((half as u16).to_le_bytes());
+        }
+        out.extend(self.delay.to_le_bytes());
+        out.extend(self.horizon.to_le_bytes());
+        for (at, allowance) in &self.thresholds {
+            out.extend(at.to_le_bytes());
+            out.extend(allowance.to_le_bytes());
+        }
+        for (left, right) in &self.buckets {
+            out.extend(left.to_le_bytes());
+            out.extend(right.to_le_bytes());
+        }
+        out
+    }
+
+    fn ends(&self) -> Vec<u32> {
+        let mut ends = vec![0];
+        ends.extend(self.thresholds.iter().map(|t| t.0));
+        ends.push(1_000_000);
+        ends
+    }
+}
+
+pub fn plan_f() -> Draft {
+    Draft {
+        thresholds: vec![(50_000, 4_398_046_511)],
+        delay: 1000,
+        horizon: 200,
+        buckets: vec![(0, 50_000), (50_000, 1_000_000)],
+    }
+}
+
+pub const STAR_THRESHOLDS: [u32; 9] = [500, 1000, 2000, 8000, 10_000, 12_000, 45_000, 50_000, 55_000];
+pub const STAR_BUCKETS: [(u32, u32); 7] = [
+    (0, 1000),
+    (1000, 10_000),
+    (10_000, 50_000),
+    (50_000, 1_000_000),
+    (500, 2000),
+    (8000, 12_000),
+    (45_000, 55_000),
+];
+pub const STAR_ALLOWANCE: u64 = 488_671_834;
+
+pub fn star_plan() -> Draft {
+    Draft {
+        thresholds: STAR_THRESHOLDS.iter().map(|a| (*a, STAR_ALLOWANCE)).collect(),
+        delay: 1000,
+        horizon: 50_000,
+        buckets: STAR_BUCKETS.to_vec(),
+    }
+}
+
+#[derive(Clone, Debug)]
+pub enum PlanFile {
+    Stored(Vec<u8>),
+    Missing,
+    /// A folder of that name: there, but no file to read.
+    Folder,
+}
+
+impl PlanFile {
+    pub fn bytes(&self) -> Option<&[u8]> {
+        match self {
+            PlanFile::Stored(bytes) => Some(bytes),
+            _ => None,
+        }
+    }
+}
+
+/// How the input reaches the program.
+#[derive(Clone, Copy, Debug, PartialEq)]
+pub enum Feed {
+    /// All at once, then the end of input.
+    Whole,
+    /// In pieces with pauses, then the end of input.
+    Pieces,
+    /// All at once, and no end of input until the program has gone.
+    Held,
+}
+
+#[derive(Clone, Debug)]
+pub struct Case {
+    pub kind: &'static str,
+    pub plan: PlanFile,
+    pub input: Vec<u8>,
+    pub feed: Feed,
+}
+
+// ---- plans that keep the rules
+
+fn thresholds(rng: &mut Rng, count: usize) -> Vec<u32> {
+    let style = rng.below(6);
+    let centre = rng.range(1, 999_999);
+    let mut out: Vec<u32> = Vec::new();
+    while out.len() < count {
+        let at = match style {
+            0 | 1 => rng.range(1, 999_999),
+            2 => rng.scale(1, 999_999),
+            3 => 1_000_000 - rng.scale(1, 999_999),
+            4 => (centre + rng.below(60)).clamp(1, 999_999),
+            _ => rng.pick(&[1, 2, 500, 1000, 10_000, 50_000, 100_000, 400_000, 500_000, 900_000, 999_998, 999_999]),
+        };
+        if !out.contains(&(at as u32)) {
+            out.push(at as u32);
+        } else if rng.chance(1, 4) {
+            let other = rng.range(1, 999_999) as u32;
+            if !out.contains(&other) {
+                out.push(other);
+            }
+        }
+    }
+    out.sort();
+    out
+}
+
+fn allowances(rng: &mut Rng, count: usize, least: u64) -> Vec<u64> {
+    let style = rng.below(6);
+    let same = rng.scale(least, LARGEST);
+    let one = |rng: &mut Rng| match style {
+        0 | 1 => rng.scale(least, LARGEST),
+        2 => same,
+        3 => rng.scale(least, (least * 1000).min(LARGEST)),
+        4 => rng.range(LARGEST / 2, LARGEST),
+        _ => rng.pick(&[least, least + 1, 4_398_046_511, 488_671_834, LARGEST - 1, LARGEST]),
+    };
+    (0..count).map(|_| one(rng)).collect()
+}
+
+/// Buckets that cover 0 to 1, from the given ends, in any order, overlap as it comes.
+fn buckets(rng: &mut Rng, ends: &[u32], count: usize, overlap: bool) -> Vec<(u32, u32)> {
+    let last = ends.len() - 1;
+    let mut out = Vec::new();
+    for _ in 0..60 {
+        out.clear();
+        let mut reached = 0;
+        while reached < last {
+            let left = if overlap && rng.chance(1, 3) { rng.below(reached as u64 + 1) as usize } else { reached };
+            let right = rng.range(reached as u64 + 1, last as u64) as usize;
+            if (left, right) != (0, last) {
+                out.push((ends[left], ends[right]));
+                reached = right;
+            }
+        }
+        if out.len() <= count {
+            break;
+        }
+    }
+    if out.len() > count {
+        let at = ends[rng.range(1, last as u64 - 1) as usize];
+        out = vec![(0, at), (at, 1_000_000)];
+    }
+    while out.len() < count {
+        let left = rng.below(last as u64) as usize;
+        let right = rng.range(left as u64 + 1, last as u64) as usize;
+        let narrow = overlap || rng.chance(1, 2);
+        if (left, right) != (0, last) && narrow {
+            out.push((ends[left], ends[right]));
+        } else {
+            let again = rng.pick(&out);
+            out.push(again);
+        }
+    }
+    rng.shuffle(&mut out);
+    out
+}
+
+fn any_plan(rng: &mut Rng, least_allowance: u64, horizon: u32) -> Draft {
+    let k = rng.range(1, 10) as usize;
+    let b = rng.range(2, 16) as usize;
+    let mut draft = Draft {
+        thresholds: Vec::new(),
+        delay: rng.scale(1, 65_535) as u32,
+        horizon,
+        buckets: Vec::new(),
+    };
+    let allowances = allowances(rng, k, least_allowance);
+    draft.thresholds = thresholds(rng, k).into_iter().zip(allowances).collect();
+    let overlap = rng.chance(2, 3);
+    draft.buckets = buckets(rng, &draft.ends(), b, overlap);
+    draft
+}
+
+// ---- draws
+
+/// Who chooses the next draw.
+#[derive(Clone, Copy, Debug)]
+enum Style {
+    /// By chance alone.
+    Chance(f64),
+    /// By chance, but away from an ending answer where one draw leads away.
+    Cling(f64),
+    /// As near to one threshold's upper or lower boundary as goes without meeting it,
+    /// until the release step; an ending answer is avoided likewise.
+    Hug { upper: bool, release: u64 },
+}
+
+fn near(rng: &mut Rng, draft: &Draft) -> f64 {
+    let at = rng.pick(&draft.thresholds).0 as f64 / 1e6;
+    match rng.below(5) {
+        0 => at,
+        1 => at * (0.8 + 0.4 * rng.unit()),
+        2 => at + (rng.unit() - 0.5) * 0.02,
+        3 => 1.0 - (1.0 - at) * (0.8 + 0.4 * rng.unit()),
+        _ => rng.unit(),
+    }
+    .clamp(0.0, 1.0)
+}
+
+fn steer(rng: &mut Rng, draft: &Draft, length: usize, style: Style) -> Vec<bool> {
+    let plan = read(&draft.store()).expect("a plan that keeps the rules");
+    let mut test = Test::begin(&plan, Slip::None);
+    let mut draws = Vec::new();
+    let mut held = rng.below(plan.thresholds.len() as u64) as usize;
+    while draws.len() < length && !test.answer().ends() {
+        test.advance();
+        if test.marks[held] != Mark::Open {
+            held = test.marks.iter().position(|m| *m == Mark::Open).unwrap_or(0);
+        }
+        let chosen = match style {
+            Style::Chance(p) => rng.unit() < p,
+            Style::Cling(p) => {
+                let x = rng.unit() < p;
+                x ^ (test.would(x).ends() && !test.would(!x).ends())
+            }
+            Style::Hug { upper, release } => {
+                let bounds = &test.boundaries[held];
+                let ones = test.ones as i64;
+                let x = if test.draws >= release {
+                    upper
+                } else if upper {
+                    ones + 1 < bounds.upper
+                } else {
+                    ones <= bounds.lower
+                };
+                x ^ (test.draws < release && test.would(x).ends() && !test.would(!x).ends())
+            }
+        };
+        draws.push(chosen);
+        test.settle(chosen);
+    }
+    draws
+}
+
+fn segments(rng: &mut Rng, length: usize) -> Vec<bool> {
+    let mut out = Vec::new();
+    while out.len() < length {
+        let p = rng.pick(&[0.0, 0.0, 1.0, 1.0, 0.5, 0.05, 0.95]);
+        for _ in 0..rng.scale(1, 120) {
+            out.push(rng.unit() < p);
+        }
+    }
+    out.truncate(length);
+    out
+}
+
+/// Draws as characters, with newlines in one of several ways.
+fn render(rng: &mut Rng, draws: &[bool]) -> Vec<u8> {
+    let style = rng.below(6);
+    let width = rng.range(1, 80) as usize;
+    let mut out = Vec::with_capacity(draws.len() + 8);
+    if style == 4 {
+        out.extend(vec![b'\n'; rng.below(5) as usize]);
+    }
+    for (i, draw) in draws.iter().enumerate() {
+        out.push(if *draw { b'1' } else { b'0' });
+        let line_end = match style {
+            2 => (i + 1) % width == 0,
+            3 => rng.chance(1, 7),
+            _ => false,
+        };
+        if line_end {
+            out.push(b'\n');
+        }
+    }
+    if style == 1 || style == 4 {
+        out.push(b'\n');
+    }
+    out
+}
+
+fn draws(rng: &mut Rng, draft: &Draft, length: usize) -> Vec<bool> {
+    let p = near(rng, draft);
+    match rng.below(8) {
+        0 => vec![rng.chance(1, 2); length],
+        1 => segments(rng, length),
+        2 | 3 => (0..length).map(|_| rng.unit() < p).collect(),
+        4 => steer(rng, draft, length, Style::Cling(p)),
+        5 => {
+            let mut out = steer(rng, draft, length, Style::Chance(p));
+            out.push(rng.chance(1, 2));
+            out
+        }
+        which => {
+            let release = rng.scale(1, length.max(1) as u64);
+            steer(rng, draft, length, Style::Hug { upper: which == 6, release })
+        }
+    }
+}
+
+// ---- the random runs
+
+/// How many of each; the long ones first.
+pub const HORIZON_RUNS: u64 = 6;
+pub const LONGER_RUNS: u64 = 24;
+pub const LONG_RUNS: u64 = 430;
+pub const WIDE_RUNS: u64 = 60;
+pub const CROSSED_RUNS: u64 = 300;
+pub const SHORT_RUNS: u64 = 4600;
+pub const RANDOM_RUNS: u64 = HORIZON_RUNS + LONGER_RUNS + LONG_RUNS + WIDE_RUNS + CROSSED_RUNS + SHORT_RUNS;
+
+fn case(rng: &mut Rng, kind: &'static str, draft: &Draft, draws: &[bool]) -> Case {
+    let input = render(rng, draws);
+    let feed = match rng.below(60) {
+        0 => Feed::Pieces,
+        _ => Feed::Whole,
+    };
+    Case { kind, plan: PlanFile::Stored(draft.store()), input, feed }
+}
+
+/// A run to a far horizon.
+fn horizon_run(rng: &mut Rng, place: u64) -> Case {
+    let mut draft = star_plan();
+    let p = match place {
+        0 => 0.0009,
+        1 => 0.05,
+        2 => {
+            // One threshold near one half: wide after many steps.
+            draft.thresholds = vec![(499_999, 1 << 36)];
+            draft.buckets = vec![(0, 499_999), (499_999, 1_000_000)];
+            0.5
+        }
+        3 => {
+            draft.horizon = 30_000;
+            draft.delay = 65_535;
+            0.0101
+        }
+        4 => {
+            draft.thresholds = vec![(1, 1 << 20), (999_999, 1 << 20)];
+            draft.buckets = vec![(0, 1), (1, 999_999), (999_999, 1_000_000)];
+            draft.horizon = 20_000;
+            0.00005
+        }
+        _ => {
+            draft.thresholds = vec![(250_000, LARGEST), (750_000, 1 << 30)];
+            draft.buckets = vec![(0, 250_000), (250_000, 750_000), (750_000, 1_000_000)];
+            draft.horizon = 20_000;
+            0.74
+        }
+    };
+    let draws = steer(rng, &draft, 50_001, Style::Cling(p));
+    case(rng, "horizon", &draft, &draws)
+}
+
+/// A run of more than a thousand draws, most times.
+fn long_run(rng: &mut Rng, kind: &'static str, from: u64, to: u64) -> Case {
+    let mut best: Option<(Draft, Vec<bool>)> = None;
+    for _ in 0..20 {
+        let horizon = if rng.chance(1, 3) { rng.range(from, to) } else { rng.range(to, 50_000) };
+        let mut draft = any_plan(rng, 50_000, horizon as u32);
+        // Thresholds far apart end early; keep one or two for most runs.
+        if rng.chance(1, 2) {
+            let at = rng.pick(&draft.thresholds);
+            draft.thresholds = vec![at];
+            let count = rng.range(2, 16) as usize;
+            draft.buckets = buckets(rng, &draft.ends(), count, false);
+        }
+        let length = rng.range(from, to) as usize;
+        let p = near(rng, &draft);
+        let style = match rng.below(4) {
+            0 => Style::Hug { upper: true, release: length as u64 },
+            1 => Style::Hug { upper: false, release: length as u64 },
+            _ => Style::Cling(p),
+        };
+        let mut draws = steer(rng, &draft, length, style);
+        let enough = draws.len() > 1000;
+        if best.as_ref().map_or(true, |b| b.1.len() < draws.len()) {
+            if rng.chance(1, 4) {
+                let p = rng.unit();
+                draws.extend((0..300).map(|_| rng.unit() < p));
+            }
+            best = Some((draft, draws));
+        }
+        if enough {
+            break;
+        }
+    }
+    let (draft, draws) = best.expect("a run");
+    case(rng, kind, &draft, &draws)
+}
+
+/// Allowances so small that a threshold goes wide.
+fn wide_run(rng: &mut Rng) -> Case {
+    let horizon = rng.pick(&[766, 767, 768, 769, 770, 2000, 50_000]);
+    let mut draft = any_plan(rng, 1, horizon);
+    for t in draft.thresholds.iter_mut() {
+        t.1 = rng.pick(&[1, 1, 1, 2, 3]);
+    }
+    draft.delay = rng.pick(&[1, 2, 1000, 65_535]);
+    let p = near(rng, &draft);
+    let draws = steer(rng, &draft, 800, Style::Cling(p));
+    case(rng, "wide", &draft, &draws)
+}
+
+/// Crossing: zeros until the inner threshold, with a large allowance, is at most; then ones
+/// until the far one, close above it with a small allowance, is above. Every bucket that
+/// holds p = 0 ends at the outer threshold below them, whose allowance of 1 never settles it.
+/// Or all of it mirrored.
+fn crossed_run(rng: &mut Rng) -> Case {
+    let upward = rng.chance(1, 2);
+    let outer = rng.range(1, 4_000);
+    let inner = rng.range(40_000, 600_000);
+    let far = inner + rng.range(1, inner / 3);
+    let free = rng.scale(1 << 37, LARGEST);
+    let firm = rng.scale(1 << 14, 1 << 30);
+    let mut thresholds = vec![(outer as u32, 1), (inner as u32, free), (far as u32, firm)];
+    let mut middle = vec![(outer as u32, 1_000_000)];
+    if rng.chance(1, 2) {
+        let more = rng.range(far + 1, 999_999) as u32;
+        thresholds.push((more, rng.scale(1, 1 << 20)));
+        middle.push((outer as u32, more));
+        middle.push((inner as u32, more));
+    }
+    let mut buckets = vec![(0, outer as u32)];
+    buckets.extend(middle);
+    rng.shuffle(&mut buckets);
+    let delay = rng.scale(1, 300) as u32;
+    let mut draft = Draft { thresholds, delay, horizon: rng.range(700, 50_000) as u32, buckets };
+    if upward {
+        // The mirror image.
+        let turn = |e: u32| 1_000_000 - e;
+        draft.thresholds = draft.thresholds.iter().rev().map(|t| (turn(t.0), t.1)).collect();
+        draft.buckets = draft.buckets.iter().map(|b| (turn(b.1), turn(b.0))).collect();
+    }
+    let plan = read(&draft.store()).expect("a plan that keeps the rules");
+    let mut test = Test::begin(&plan, Slip::None);
+    let noise = rng.pick(&[0, 0, 20]);
+    let inner_place = plan.thresholds.iter().position(|t| t.allowance == free as u128).unwrap_or(0);
+    let mut draws = Vec::new();
+    while !test.answer().ends() {
+        test.advance();
+        let settled = test.marks[inner_place] != Mark::Open;
+        let x = (settled ^ upward) ^ (noise > 0 && rng.chance(1, noise));
+        draws.push(x);
+        test.settle(x);
+    }
+    case(rng, "crossed", &draft, &draws)
+}
+
+fn short_run(rng: &mut Rng, place: u64) -> Case {
+    let least = rng.pick(&[1, 1, 1000]);
+    let length = if place % 5 == 0 { rng.scale(1, 700) } else { rng.scale(1, 160) };
+    let horizon = if rng.chance(1, 3) { rng.scale(1, 300) } else { rng.scale(1, 50_000) };
+    let draft = any_plan(rng, least, horizon as u32);
+    let draws = draws(rng, &draft, length as usize);
+    let mut out = case(rng, "random", &draft, &draws);
+    if rng.chance(1, 40) {
+        let line = crate::sequential::program(out.plan.bytes(), &out.input);
+        if !line.starts_with("open") {
+            out.feed = Feed::Held;
+        }
+    }
+    out
+}
+
+pub fn random_case(seed: u64, place: u64) -> Case {
+    let rng = &mut Rng::new(seed, 1_000_000 + place);
+    let mut rest = place;
+    let mut within = |count: u64| {
+        let inside = rest < count;
+        if !inside {
+            rest -= count;
+        }
+        inside
+    };
+    if within(HORIZON_RUNS) {
+        horizon_run(rng, rest)
+    } else if within(LONGER_RUNS) {
+        long_run(rng, "longer", 3000, 9000)
+    } else if within(LONG_RUNS) {
+        long_run(rng, "long", 1010, 2200)
+    } else if within(WIDE_RUNS) {
+        wide_run(rng)
+    } else if within(CROSSED_RUNS) {
+        crossed_run(rng)
+    } else {
+        short_run(rng, rest)
+    }
+}
+
+// ---- damaged plans and inputs
+
+pub const DAMAGED_RUNS: u64 = 21_000;
+
+fn put(bytes: &mut [u8], from: usize, size: usize, value: u64) {
+    for i in 0..size {
+        if let Some(byte) = bytes.get_mut(from + i) {
+            *byte = (value >> (8 * i)) as u8;
+        }
+    }
+}
+
+fn odd_number(rng: &mut Rng, size: usize, near: &[u64]) -> u64 {
+    let top = if size == 8 { u64::MAX } else { (1 << (8 * size)) - 1 };
+    match rng.below(4) {
+        0 => rng.pick(&[0, 1, 2, top, top - 1, top / 2, top / 2 + 1]),
+        1 => rng.next() & top,
+        _ => {
+            let at = rng.pick(near);
+            rng.pick(&[at, at.wrapping_sub(1), at.wrapping_add(1), at.wrapping_add(1 << (8 * size - 8)), at << 8]) & top
+        }
+    }
+}
+
+fn damage_header(rng: &mut Rng, bytes: &mut Vec<u8>, k: usize) {
+    let (from, size, near): (usize, usize, Vec<u64>) = match rng.below(6) {
+        0 => (0, 2, vec![0, 1, 10, 11, k as u64]),
+        1 => (2, 2, vec![1, 2, 16, 17]),
+        2 => (4, 2, vec![16, 0, 20]),
+        3 => (6, 2, vec![16 + 12 * k as u64, 28, 16]),
+        4 => (8, 4, vec![1, 65_535, 1000, 0]),
+        _ => (12, 4, vec![1, 50_000, 200, 0]),
+    };
+    let value = odd_number(rng, size, &near);
+    put(bytes, from, size, value);
+}
+
+fn damage_threshold(rng: &mut Rng, draft: &mut Draft) {
+    let i = rng.below(draft.thresholds.len() as u64) as usize;
+    let before = if i > 0 { draft.thresholds[i - 1].0 as u64 } else { 1 };
+    let after = draft.thresholds.get(i + 1).map_or(999_999, |t| t.0 as u64);
+    draft.thresholds[i].0 = odd_number(rng, 4, &[1, 999_999, 1_000_000, before, after]) as u32;
+}
+
+fn damage_allowance(rng: &mut Rng, draft: &mut Draft) {
+    let i = rng.below(draft.thresholds.len() as u64) as usize;
+    let now = draft.thresholds[i].1;
+    draft.thresholds[i].1 = match rng.below(3) {
+        0 => now | 1 << rng.range(32, 63),
+        _ => odd_number(rng, 8, &[1, LARGEST, LARGEST + 1, now]),
+    };
+}
+
+fn damage_bucket(rng: &mut Rng, draft: &mut Draft) {
+    let ends = draft.ends();
+    let i = rng.below(draft.buckets.len() as u64) as usize;
+    let bucket = &mut draft.buckets[i];
+    match rng.below(6) {
+        0 => *bucket = (bucket.1, bucket.0),
+        1 => *bucket = (0, 1_000_000),
+        2 => *bucket = (bucket.0, bucket.0),
+        3 => *bucket = (rng.pick(&ends), rng.pick(&ends)),
+        4 => bucket.0 = odd_number(rng, 4, &[0, 1_000_000, bucket.0 as u64, bucket.1 as u64]) as u32,
+        _ => bucket.1 = odd_number(rng, 4, &[0, 1_000_000, bucket.0 as u64, bucket.1 as u64]) as u32,
+    }
+}
+
+/// All buckets replaced or narrowed, so that some p may lie in none.
+fn damage_cover(rng: &mut Rng, draft: &mut Draft) {
+    let ends = draft.ends();
+    let place = |rng: &mut Rng| {
+        let left = rng.below(ends.len() as u64 - 1) as usize;
+        let right = rng.range(left as u64 + 1, ends.len() as u64 - 1) as usize;
+        (ends[left], ends[right])
+    };
+    if rng.chance(1, 2) {
+        for bucket in draft.buckets.iter_mut() {
+            *bucket = place(rng);
+        }
+    } else {
+        let i = rng.below(draft.buckets.len() as u64) as usize;
+        let other = rng.pick(&draft.buckets);
+        draft.buckets[i] = other;
+    }
+}
+
+fn damage_counts(rng: &mut Rng, draft: &mut Draft) {
+    match rng.below(4) {
+        0 => draft.thresholds.clear(),
+        1 => {
+            let mut at = draft.thresholds.last().map_or(1, |t| t.0);
+            while draft.thresholds.len() < 11 {
+                at += 1;
+                draft.thresholds.push((at, 7));
+            }
+        }
+        2 => draft.buckets.truncate(rng.below(2) as usize),
+        _ => {
+            while draft.buckets.len() < 17 {
+                let again = rng.pick(&draft.buckets);
+                draft.buckets.push(again);
+            }
+        }
+    }
+}
+
+fn damage_order(rng: &mut Rng, draft: &mut Draft) {
+    let count = draft.thresholds.len() as u64;
+    let (i, j) = (rng.below(count) as usize, rng.below(count) as usize);
+    match rng.below(3) {
+        0 => draft.thresholds.swap(i, j),
+        1 => draft.thresholds[i].0 = draft.thresholds[j].0,
+        _ => draft.thresholds.reverse(),
+    }
+}
+
+fn foreign(rng: &mut Rng) -> u8 {
+    loop {
+        let any = rng.next() as u8;
+        let byte = rng.pick(&[b'2', b' ', b'\t', b'\r', 0, 0x0b, 0xff, b'/', b'O', 0x80, any]);
+        if ![b'0', b'1', b'\n'].contains(&byte) {
+            return byte;
+        }
+    }
+}
+
+fn damage_input(rng: &mut Rng, input: &mut Vec<u8>) {
+    for _ in 0..rng.range(1, 3) {
+        let at = rng.below(input.len() as u64 + 1) as usize;
+        match rng.below(6) {
+            0 => input.insert(at, 0),
+            1 => input.insert(at, b'\r'),
+            2 => {
+                input.insert(at, b'\n');
+                input.insert(at, b'\r');
+            }
+            3 if at < input.len() => input[at] ^= 1 << rng.below(8),
+            _ => input.insert(at, foreign(rng)),
+        }
+    }
+}
+
+/// A plan of no more than the given thresholds that ends soon on most inputs.
+fn small_plan(rng: &mut Rng) -> Draft {
+    let horizon = rng.scale(1, 60) as u32;
+    let mut draft = any_plan(rng, 1, horizon);
+    if rng.chance(1, 3) {
+        draft.horizon = rng.scale(1, 50_000) as u32;
+    }
+    draft
+}
+
+pub fn damaged_case(seed: u64, place: u64) -> Case {
+    let rng = &mut Rng::new(seed, 900_000_000 + place);
+    let mut draft = if rng.chance(1, 6) { plan_f() } else { small_plan(rng) };
+    let length = rng.scale(1, 40) as usize;
+    let p = near(rng, &draft);
+    let some: Vec<bool> = (0..length).map(|_| rng.unit() < p).collect();
+    let mut input = render(rng, &some);
+    let count = draft.thresholds.len();
+    let (kind, stored): (&'static str, PlanFile) = match place % 19 {
+        0 | 1 => {
+            let mut bytes = draft.store();
+            damage_header(rng, &mut bytes, count);
+            ("header", PlanFile::Stored(bytes))
+        }
+        2 => {
+            damage_counts(rng, &mut draft);
+            ("counts", PlanFile::Stored(draft.store()))
+        }
+        3 => {
+            damage_threshold(rng, &mut draft);
+            ("threshold", PlanFile::Stored(draft.store()))
+        }
+        4 => {
+            damage_allowance(rng, &mut draft);
+            ("allowance", PlanFile::Stored(draft.store()))
+        }
+        5 => {
+            let near = [1, 65_535, 65_536, 50_000, 50_001];
+            if rng.chance(1, 2) {
+                draft.delay = odd_number(rng, 4, &near) as u32;
+            } else {
+                draft.horizon = odd_number(rng, 4, &near) as u32;
+            }
+            ("delay or horizon", PlanFile::Stored(draft.store()))
+        }
+        6 => {
+            damage_bucket(rng, &mut draft);
+            ("bucket", PlanFile::Stored(draft.store()))
+        }
+        7 => {
+            damage_cover(rng, &mut draft);
+            ("cover", PlanFile::Stored(draft.store()))
+        }
+        8 => {
+            let mut bytes = draft.store();
+            bytes.truncate(rng.below(bytes.len() as u64) as usize);
+            ("truncated", PlanFile::Stored(bytes))
+        }
+        9 => {
+            let mut bytes = draft.store();
+            let more = rng.pick(&[1, 1, 2, 4, 8, 12, 16, 220, 248, 249, 264, 300, 4096, 70_000]);
+            let zeros = rng.chance(1, 2);
+            bytes.extend((0..more).map(|_| if zeros { 0 } else { rng.next() as u8 }));
+            ("extended", PlanFile::Stored(bytes))
+        }
+        10 | 11 => {
+            let mut bytes = draft.store();
+            for _ in 0..rng.range(1, 3) {
+                let at = rng.below(bytes.len() as u64) as usize;
+                bytes[at] ^= 1 << rng.below(8);
+            }
+            ("bit flips", PlanFile::Stored(bytes))
+        }
+        12 => {
+            damage_order(rng, &mut draft);
+            ("order", PlanFile::Stored(draft.store()))
+        }
+        13 => {
+            // Several at once, to see which refusal comes first.
+            for _ in 0..rng.range(2, 4) {
+                match rng.below(6) {
+                    0 => damage_threshold(rng, &mut draft),
+                    1 => damage_allowance(rng, &mut draft),
+                    2 => draft.delay = odd_number(rng, 4, &[0, 65_536]) as u32,
+                    3 => draft.horizon = odd_number(rng, 4, &[0, 50_001]) as u32,
+                    4 => damage_bucket(rng, &mut draft),
+                    _ => damage_cover(rng, &mut draft),
+                }
+            }
+            let mut bytes = draft.store();
+            if rng.chance(1, 4) {
+                damage_header(rng, &mut bytes, count);
+            }
+            if rng.chance(1, 6) {
+                bytes.pop();
+            }
+            if rng.chance(1, 4) {
+                damage_input(rng, &mut input);
+            }
+            ("several", PlanFile::Stored(bytes))
+        }
+        14 => {
+            damage_input(rng, &mut input);
+            ("foreign input", PlanFile::Stored(draft.store()))
+        }
+        15 => {
+            damage_input(rng, &mut input);
+            damage_input(rng, &mut input);
+            ("foreign input", PlanFile::Stored(plan_f().store()))
+        }
+        16 => {
+            // The input goes on, with anything, after an ending answer.
+            draft.horizon = rng.range(1, length as u64) as u32;
+            for _ in 0..rng.scale(1, 3000) {
+                input.push(if rng.chance(1, 3) { rng.next() as u8 } else { b'0' + rng.below(2) as u8 });
+            }
+            ("after the end", PlanFile::Stored(draft.store()))
+        }
+        17 => {
+            let plan = match rng.below(4) {
+                0 => PlanFile::Missing,
+                1 => PlanFile::Stored(Vec::new()),
+                2 => PlanFile::Folder,
+                _ => {
+                    let count = rng.scale(1, 400);
+                    PlanFile::Stored((0..count).map(|_| rng.next() as u8).collect())
+                }
+            };
+            if rng.chance(1, 4) {
+                damage_input(rng, &mut input);
+            }
+            ("no plan", plan)
+        }
+        _ => {
+            // Newlines in plenty, or input of any bytes.
+            if rng.chance(1, 2) {
+                let at = rng.below(input.len() as u64 + 1) as usize;
+                let lines = vec![b'\n'; rng.scale(1, 9000) as usize];
+                input.splice(at..at, lines);
+            } else {
+                input = (0..rng.below(50)).map(|_| rng.next() as u8).collect();
+            }
+            ("newlines or any bytes", PlanFile::Stored(draft.store()))
+        }
+    };
+    Case { kind, plan: stored, input, feed: Feed::Whole }
+}

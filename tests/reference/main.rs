@@ -1,0 +1,84 @@
+//! A separately written bucket test, and a runner that compares it with a program.
+
+mod big;
+mod boundary;
+mod cases;
+mod compare;
+mod examples;
+mod gandy;
+mod plan;
+mod rng;
+mod selfcheck;
+mod sequential;
+
+use std::io::{Read, Write};
+use std::process::exit;
+
+const USAGE: &str = "usage: reference COMMAND
+  check [--seed N]                     the reference against the rules' examples, no program
+  compare --program PATH [--arg WORD]... [--seed N] [--threads N] [--keep DIR]
+                                       the program against the reference
+  gandy [--steps N] [--runs N] [--seed N]
+                                       the published rule, by exact fractions
+  program                              behave as the program: file `plan`, draws on standard input";
+
+/// The value after each `--name` word.
+pub struct Words(Vec<String>);
+
+impl Words {
+    fn all(&self, name: &str) -> Vec<String> {
+        self.0.windows(2).filter(|w| w[0] == name).map(|w| w[1].clone()).collect()
+    }
+
+    fn number(&self, name: &str, otherwise: u64) -> u64 {
+        match self.all(name).last() {
+            None => otherwise,
+            Some(word) => word.parse().unwrap_or_else(|_| {
+                eprintln!("{name}: not a number: {word}");
+                exit(2)
+            }),
+        }
+    }
+}
+
+const SEED: u64 = 20_251;
+
+fn main() {
+    let mut words: Vec<String> = std::env::args().skip(1).collect();
+    if words.is_empty() {
+        eprintln!("{USAGE}");
+        exit(2)
+    }
+    let command = words.remove(0);
+    let words = Words(words);
+    let seed = words.number("--seed", SEED);
+    let good = match command.as_str() {
+        "check" => selfcheck::run(seed),
+        "compare" => {
+            let Some(program) = words.all("--program").pop() else {
+                eprintln!("compare needs --program PATH");
+                exit(2)
+            };
+            compare::run(&compare::Setting {
+                program,
+                args: words.all("--arg"),
+                seed,
+                threads: words.number("--threads", 2).max(1) as usize,
+                keep: words.all("--keep").pop(),
+            })
+        }
+        "gandy" => gandy::run(words.number("--steps", 1000), words.number("--runs", 20_000), seed),
+        "program" => {
+            let stored = std::fs::read("plan").ok();
+            let input = std::io::BufReader::new(std::io::stdin()).bytes().map_while(|byte| byte.ok());
+            let line = sequential::program_on(stored.as_deref(), input);
+            std::io::stdout().write_all(line.as_bytes()).expect("standard output");
+            true
+        }
+        _ => {
+            eprintln!("{USAGE}");
+            exit(2)
+        }
+    };
+    exit(if good { 0 } else { 1 })
+}

@@ -1,0 +1,164 @@
+//! The plan: its rules, and the reading of its stored form.
+
+/// The whole, in units of 1/2^42.
+pub const WHOLE: u128 = 4_398_046_511_104;
+pub const MILLION: u128 = 1_000_000;
+pub const LARGEST_ALLOWANCE: u128 = 2_199_023_255_551;
+
+#[derive(Clone, Debug, PartialEq)]
+pub struct Threshold {
+    pub at: u128,
+    pub allowance: u128,
+}
+
+#[derive(Clone, Debug, PartialEq)]
+pub struct Bucket {
+    pub left: u128,
+    pub right: u128,
+}
+
+#[derive(Clone, Debug, PartialEq)]
+pub struct Plan {
+    pub thresholds: Vec<Threshold>,
+    pub buckets: Vec<Bucket>,
+    pub delay: u128,
+    pub horizon: u128,
+}
+
+/// An exact fraction, for the points p that matter to rule 6.
+#[derive(Clone, Copy)]
+struct Fraction {
+    over: u128,
+    under: u128,
+}
+
+impl Fraction {
+    fn millionths(n: u128) -> Fraction {
+        Fraction { over: n, under: MILLION }
+    }
+
+    fn between(a: u128, b: u128) -> Fraction {
+        Fraction { over: a + b, under: 2 * MILLION }
+    }
+
+    fn above(self, end: u128) -> bool {
+        self.over * MILLION > end * self.under
+    }
+}
+
+impl Bucket {
+    fn holds(&self, p: Fraction) -> bool {
+        let from_left = p.above(self.left) || (self.left == 0 && p.over == 0);
+        from_left && !p.above(self.right)
+    }
+
+    /// Does it contain the interval from low to high?
+    pub fn contains(&self, low: u128, high: u128) -> bool {
+        self.left <= low && high <= self.right
+    }
+}
+
+impl Plan {
+    fn counts_bad(&self) -> bool {
+        !(1..=10).contains(&self.thresholds.len()) || !(2..=16).contains(&self.buckets.len())
+    }
+
+    fn threshold_bad(&self) -> bool {
+        let range = self.thresholds.iter().any(|t| t.at < 1 || t.at > 999_999);
+        let order = self.thresholds.windows(2).any(|pair| pair[1].at <= pair[0].at);
+        range || order
+    }
+
+    fn allowance_bad(&self) -> bool {
+        self.thresholds.iter().any(|t| t.allowance < 1 || t.allowance > LARGEST_ALLOWANCE)
+    }
+
+    fn delay_or_horizon_bad(&self) -> bool {
+        self.delay < 1 || self.delay > 65_535 || self.horizon < 1 || self.horizon > 50_000
+    }
+
+    fn end_permitted(&self, end: u128) -> bool {
+        end == 0 || end == MILLION || self.thresholds.iter().any(|t| t.at == end)
+    }
+
+    fn bucket_bad(&self) -> bool {
+        self.buckets.iter().any(|b| {
+            b.left >= b.right
+                || (b.left == 0 && b.right == MILLION)
+                || !self.end_permitted(b.left)
+                || !self.end_permitted(b.right)
+        })
+    }
+
+    /// Every p that matters: all ends, and the midpoint of neighbouring ends.
+    fn p_uncovered(&self) -> bool {
+        let mut ends = vec![0, MILLION];
+        ends.extend(self.thresholds.iter().map(|t| t.at));
+        for b in &self.buckets {
+            ends.extend([b.left, b.right]);
+        }
+        ends.sort();
+        let mut points: Vec<Fraction> = ends.iter().map(|e| Fraction::millionths(*e)).collect();
+        points.extend(ends.windows(2).map(|w| Fraction::between(w[0], w[1])));
+        points.iter().any(|p| !self.buckets.iter().any(|b| b.holds(*p)))
+    }
+
+    /// The first refusal, 1 to 6, each over all entries before the next.
+    pub fn refusal(&self) -> Option<u8> {
+        if self.counts_bad() {
+            Some(1)
+        } else if self.threshold_bad() {
+            Some(2)
+        } else if self.allowance_bad() {
+            Some(3)
+        } else if self.delay_or_horizon_bad() {
+            Some(4)
+        } else if self.bucket_bad() {
+            Some(5)
+        } else if self.p_uncovered() {
+            Some(6)
+        } else {
+            None
+        }
+    }
+}
+
+/// A number of `size` bytes, little end first.
+fn number(stored: &[u8], from: usize, size: usize) -> u128 {
+    (0..size).map(|i| (stored[from + i] as u128) << (8 * i)).sum()
+}
+
+/// Reads a stored plan, or gives the refusal.
+pub fn read(stored: &[u8]) -> Result<Plan, u8> {
+    if stored.len() < 16 {
+        return Err(7);
+    }
+    let count_thresholds = number(stored, 0, 2) as usize;
+    let count_buckets = number(stored, 2, 2) as usize;
+    if !(1..=10).contains(&count_thresholds) || !(2..=16).contains(&count_buckets) {
+        return Err(1);
+    }
+    let buckets_from = 16 + 12 * count_thresholds;
+    if number(stored, 4, 2) != 16 || number(stored, 6, 2) != buckets_from as u128 {
+        return Err(7);
+    }
+    if stored.len() != buckets_from + 8 * count_buckets {
+        return Err(7);
+    }
+    let plan = Plan {
+        thresholds: (0..count_thresholds)
+            .map(|i| 16 + 12 * i)
+            .map(|from| Threshold { at: number(stored, from, 4), allowance: number(stored, from + 4, 8) })
+            .collect(),
+        buckets: (0..count_buckets)
+            .map(|i| buckets_from + 8 * i)
+            .map(|from| Bucket { left: number(stored, from, 4), right: number(stored, from + 4, 4) })
+            .collect(),
+        delay: number(stored, 8, 4),
+        horizon: number(stored, 12, 4),
+    };
+    match plan.refusal() {
+        Some(refusal) => Err(refusal),
+        None => Ok(plan),
+    }
+}

@@ -1,0 +1,229 @@
+//! The reference held to the rules' own examples and facts; no program is needed.
+
+use crate::big::Big;
+use crate::boundary::{spending, Literal, Quick, Slip};
+use crate::cases::{self, plan_f, Draft};
+use crate::compare::kind_of_line;
+use crate::examples;
+use crate::plan::{read, LARGEST_ALLOWANCE, MILLION, WHOLE};
+use crate::rng::Rng;
+use crate::sequential::{program, program_with, Answer, Mark, Test};
+use std::collections::BTreeMap;
+use std::time::Instant;
+
+struct Report {
+    passed: u32,
+    failed: u32,
+}
+
+impl Report {
+    fn check(&mut self, name: &str, good: bool) {
+        if good {
+            self.passed += 1;
+        } else {
+            self.failed += 1;
+            println!("FAILED: {name}");
+        }
+    }
+}
+
+fn boundaries(at: u128, allowance: u128, delay: u128, steps: usize) -> Vec<(i64, i64)> {
+    let mut walk = Literal::begin(at, allowance, delay);
+    (0..steps)
+        .map(|_| {
+            walk.advance();
+            (walk.upper, walk.lower)
+        })
+        .collect()
+}
+
+fn marked(thresholds: Vec<(u32, u64)>, buckets: Vec<(u32, u32)>, marks: &[Mark]) -> ((u128, u128), Answer) {
+    let draft = Draft { thresholds, buckets, ..plan_f() };
+    let plan = read(&draft.store()).expect("a plan");
+    let mut test = Test::begin(&plan, Slip::None);
+    test.marks = marks.to_vec();
+    (test.interval(), test.answer())
+}
+
+fn numbered(report: &mut Report) {
+    let thousandth = 4_398_046_511;
+    report.check("P1", spending(thousandth, 1000, 1) == 4_393_652);
+    report.check("P1", spending(thousandth, 1000, 1000) == 2_199_023_255);
+    report.check("P2", boundaries(50_000, thousandth, 1000, 5) == [(2, -1), (3, -1), (4, -1), (5, -1), (5, -1)]);
+    let first = Literal::begin(50_000, thousandth, 1000).spread();
+    report.check("P3", first == BTreeMap::from([(0, 4_178_144_185_549), (1, 219_902_325_556)]));
+    let first = Literal::begin(400_000, thousandth, 1000).spread();
+    report.check("P4", first == BTreeMap::from([(0, 2_638_827_906_663), (1, 1_759_218_604_442)]));
+    report.check("P4", first.values().sum::<u128>() == WHOLE + 1);
+    let most = LARGEST_ALLOWANCE;
+    report.check("P5", spending(most, 1, 1) == 1_099_511_627_775 && spending(most, 1, 2) == 1_466_015_503_700);
+    report.check("P6", boundaries(400_000, most, 1, 3) == [(2, -1), (2, -1), (2, 0)]);
+
+    let pair = vec![(10_000, 4_398_046_511), (50_000, 4_398_046_511)];
+    let three = vec![(0, 10_000), (10_000, 50_000), (50_000, 1_000_000)];
+    let p7 = marked(pair.clone(), three.clone(), &[Mark::Above(1), Mark::Open]);
+    report.check("P7", p7 == ((10_000, 1_000_000), Answer::Open));
+    let p8 = marked(pair.clone(), three, &[Mark::AtMost(1), Mark::Above(2)]);
+    report.check("P8", p8 == ((50_000, 10_000), Answer::Crossed));
+    let p9 = Draft { thresholds: vec![(50_000, 2_199_023_255_552)], ..plan_f() };
+    report.check("P9", read(&p9.store()).err() == Some(3));
+    let p10 = Draft { thresholds: pair, buckets: vec![(0, 10_000), (50_000, 1_000_000)], ..plan_f() };
+    report.check("P10", read(&p10.store()).err() == Some(6));
+
+    report.check("plan F is 44 bytes", plan_f().store().len() == 44);
+    let plan = read(&plan_f().store()).expect("plan F");
+    let mut ended = Test::begin(&plan, Slip::None);
+    for _ in 0..5 {
+        report.check("plan F takes a draw", ended.take(1).is_ok());
+    }
+    report.check("draw 2 to an ended test: 9", ended.take(2) == Err(9));
+    report.check("draw 1 to an ended test: 10", ended.take(1) == Err(10));
+    let largest = Draft {
+        thresholds: (1..=10).map(|i| (i, 1)).collect(),
+        buckets: (0..16).map(|i| if i % 2 == 0 { (0, 5) } else { (5, 1_000_000) }).collect(),
+        ..plan_f()
+    };
+    report.check("the largest plan is 264 bytes", largest.store().len() == 264 && read(&largest.store()).is_ok());
+    report.check("the star plan keeps the rules", read(&cases::star_plan().store()).is_ok());
+}
+
+fn printed(report: &mut Report) {
+    for e in examples::all() {
+        let line = program(e.case.plan.bytes(), &e.case.input);
+        if line != e.line {
+            println!("  {}: {line:?} for {:?}", e.name, e.line);
+        }
+        report.check(e.name, line == e.line);
+    }
+}
+
+/// Literal against quick boundaries, and the facts said to hold at every step.
+fn facts(report: &mut Report, seed: u64) {
+    for round in 0..24u64 {
+        let rng = &mut Rng::new(seed, 77_000 + round);
+        let any = rng.range(1, 999_999);
+        let at = rng.pick(&[1, 500, 50_000, 400_000, 500_000, 999_999, any]) as u128;
+        let allowance = rng.scale(1, LARGEST_ALLOWANCE as u64) as u128;
+        let delay = rng.scale(1, 65_535) as u128;
+        let mut literal = Literal::begin(at, allowance, delay);
+        let mut quick = Quick::begin(at, allowance, delay, Slip::None);
+        let steps = if round < 4 { 400 } else { 150 };
+        let mut good = true;
+        for t in 1..=steps {
+            let (upper, lower) = (quick.upper, quick.lower);
+            literal.advance();
+            quick.advance();
+            let live: u128 = literal.mass.values().sum();
+            let all = live + literal.spent_above + literal.spent_below;
+            good &= quick.agrees(&literal)
+                && quick.upper - quick.lower >= 2
+                && quick.upper <= upper + 1
+                && quick.lower >= lower
+                && all >= WHOLE
+                && all <= WHOLE + 769 * t
+                && literal.spent_above <= spending(allowance, delay, t)
+                && literal.spent_below <= spending(allowance, delay, t);
+        }
+        report.check(&format!("facts for threshold {at}, allowance {allowance}, delay {delay}"), good);
+    }
+}
+
+/// Exact weights of the strings that meet each boundary, against the spent masses.
+fn chances(report: &mut Report, seed: u64) {
+    for round in 0..12u64 {
+        let rng = &mut Rng::new(seed, 88_000 + round);
+        let at = rng.range(1, 999_999);
+        let allowance = rng.scale(1, LARGEST_ALLOWANCE as u64) as u128;
+        let delay = rng.scale(1, 3000) as u128;
+        let mut walk = Quick::begin(at as u128, allowance, delay, Slip::None);
+        let mut weight: BTreeMap<i64, Big> = BTreeMap::from([(0, Big::from(1))]);
+        let (mut above, mut below) = (Big::from(0), Big::from(0));
+        let mut all = Big::from(1);
+        let mut good = true;
+        for n in 1..=120u64 {
+            walk.advance();
+            let mut next: BTreeMap<i64, Big> = BTreeMap::new();
+            for (count, w) in &weight {
+                next.entry(*count).or_default().add(&w.times(MILLION as u64 - at));
+                next.entry(count + 1).or_default().add(&w.times(at));
+            }
+            all = all.times(MILLION as u64);
+            above = above.times(MILLION as u64);
+            below = below.times(MILLION as u64);
+            weight.clear();
+            for (count, w) in next {
+                if count >= walk.upper {
+                    above.add(&w);
+                } else if count <= walk.lower {
+                    below.add(&w);
+                } else {
+                    weight.insert(count, w);
+                }
+            }
+            let limit = all.times(spending(allowance, delay, n as u128) as u64);
+            for (exact, spent) in [(&above, walk.spent_above), (&below, walk.spent_below)] {
+                let exact = exact.times(WHOLE as u64);
+                let spent = all.times(spent as u64);
+                good &= exact.at_most(&limit);
+                good &= exact.at_most(&spent);
+                good &= spent.at_most(&exact.plus(&all.times(769 * n)));
+            }
+        }
+        report.check(&format!("chances for threshold {at}, allowance {allowance}, delay {delay}"), good);
+    }
+}
+
+/// Each known mistake must change some line of the compared runs.
+fn mistakes(report: &mut Report, seed: u64) {
+    let slips = [
+        Slip::RoundDown,
+        Slip::RoundNearest,
+        Slip::RoundApart,
+        Slip::MassGoesOn,
+        Slip::StaleBoundary,
+        Slip::CrossedDecided,
+    ];
+    let mut shown: BTreeMap<String, u64> = BTreeMap::new();
+    let mut runs = 0;
+    let crossed_from = cases::HORIZON_RUNS + cases::LONGER_RUNS + cases::LONG_RUNS + cases::WIDE_RUNS;
+    for place in crossed_from..crossed_from + 1200 {
+        let case = cases::random_case(seed, place);
+        let right = program(case.plan.bytes(), &case.input);
+        runs += 1;
+        for slip in slips {
+            let wrong = program_with(case.plan.bytes(), &case.input, slip);
+            *shown.entry(format!("{slip:?}")).or_default() += (wrong != right) as u64;
+        }
+    }
+    let list: Vec<String> = shown.iter().map(|(slip, count)| format!("{slip} {count}")).collect();
+    println!("mistakes shown by {runs} of the runs: {}", list.join(", "));
+    for (slip, count) in &shown {
+        report.check(&format!("the runs show the mistake {slip}"), *count > 0);
+    }
+}
+
+/// The recipe for crossing must lead there.
+fn crossings(report: &mut Report, seed: u64) {
+    let from = cases::HORIZON_RUNS + cases::LONGER_RUNS + cases::LONG_RUNS + cases::WIDE_RUNS;
+    let mut kinds: BTreeMap<String, u64> = BTreeMap::new();
+    for place in from..from + cases::CROSSED_RUNS {
+        let case = cases::random_case(seed, place);
+        *kinds.entry(kind_of_line(&program(case.plan.bytes(), &case.input))).or_default() += 1;
+    }
+    println!("crossing recipe: {kinds:?}");
+    let crossed = kinds.get("crossed").copied().unwrap_or(0);
+    report.check("the crossing recipe crosses, half the time or more", 2 * crossed >= cases::CROSSED_RUNS);
+}
+
+pub fn run(seed: u64) -> bool {
+    let began = Instant::now();
+    let mut report = Report { passed: 0, failed: 0 };
+    numbered(&mut report);
+    printed(&mut report);
+    facts(&mut report, seed);
+    chances(&mut report, seed);
+    crossings(&mut report, seed);
+    mistakes(&mut report, seed);
+    println!("check: {} passed, {} failed, {:.1} s", report.passed, report.failed, began.elapsed().as_secs_f64());
+    report.failed == 0
+}
