@@ -1,13 +1,12 @@
 -- What a turn of each loop of src/answering.rt leaves to do, and the answer rule case by case. Assumes nothing.
-use mathlib.Core.Path.{_≡_, refl, sym, ap, _∙_}
-use mathlib.Core.Bool.{Bool, true, false, _&&_, _||_}
-use mathlib.Core.List.{List}
-use Prim.Native.Nat.{ℕ, zero, suc, _+_, _-_, _≤_, _<_, max, min}
+use mathlib.Core.Path.{_≡_}
+use mathlib.Core.Bool.{Bool, true, false}
+use Prim.Native.Nat.{ℕ, suc, _+_, _-_, _≤_, _<_, max, min}
 use native.Mathlib.Numerals.{add-one}
 use native.Mathlib.Omega.{arith}
-use Rattle.walk.specs.Numbers.{le?, lt?, choose, searchUp}
+use Rattle.walk.specs.Numbers.{searchUp}
 use Rattle.walk.proofs.Tests.{le?-complete, le?-fails}
-use Rattle.bucket_test.specs.Tests.{eq?, largestTo, smallestTo}
+use Rattle.bucket_test.specs.Tests.{largestTo, smallestTo}
 use Rattle.bucket_test.specs.Answers.{lowOf, highOf, anyWide, firstBucket, answerBy, answerOf}
 use Rattle.bucket_test.specs.declared.State.{State}
 use Rattle.bucket_test.specs.declared.Plan.{Plan}

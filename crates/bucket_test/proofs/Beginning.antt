@@ -1,20 +1,20 @@
 -- A test that begins has not ended: no bucket contains the whole, nothing is wide, and the horizon is not 0. Assumes nothing.
-use mathlib.Core.Path.{_≡_, refl, sym, ap, _∙_}
-use mathlib.Core.Logic.{_⊎_, inl, inr}
-use mathlib.Core.Bool.{Bool, true, false, _&&_}
-use Prim.Native.Nat.{ℕ, zero, suc, _+_, _≤_, _<_, max, min}
+use mathlib.Core.Path.{_≡_, refl, sym, _∙_}
+use mathlib.Core.Logic.{inl, inr}
+use mathlib.Core.Bool.{Bool, false, _&&_}
+use Prim.Native.Nat.{ℕ, zero, suc, _+_, _≤_, _<_}
 use native.Mathlib.Nat.{add-zero, add-suc, suc-add}
 use native.Mathlib.Omega.{arith}
 use borrow.Author.Tests.{ne-eqb}
 use lib.ListN.{getD-replicate}
-use Rattle.walk.specs.Numbers.{le?, lt?, only, choose, searchUp}
-use Rattle.walk.specs.Units.{million, wide}
-use Rattle.walk.specs.Strings.{Upper, Lower, isOn, isOpen}
+use Rattle.walk.specs.Numbers.{lt?, searchUp}
+use Rattle.walk.specs.Units.{million}
+use Rattle.walk.specs.Strings.{isOpen}
 use Rattle.walk.specs.Record.{isWide}
 use Rattle.walk.proofs.Tests.{test, Le?, le, gt, le?-fails}
 use Rattle.walk.proofs.Seams.{start-not-wide}
-use Rattle.bucket_test.specs.Tests.{eq?, anyTo, largestTo, smallestTo}
-use Rattle.bucket_test.specs.Plan.{thresholdAt, leftAt, rightAt, Permitted, Accepted}
+use Rattle.bucket_test.specs.Tests.{eq?, largestTo, smallestTo}
+use Rattle.bucket_test.specs.Plan.{leftAt, rightAt, Permitted, Accepted}
 use Rattle.bucket_test.specs.Turn.{startRecord, noRecord, recordAt}
 use Rattle.bucket_test.specs.Answers.{lowOf, highOf, anyWide, contains, firstBucket, answerBy, answerOf, isEnding}
 use Rattle.bucket_test.specs.Draw.{startState}

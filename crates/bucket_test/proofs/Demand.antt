@@ -1,16 +1,16 @@
 -- Demand 3: the invariant over every list of draws, and what it says. Assumes nothing.
 use mathlib.Core.Path.{_≡_, refl, sym, ap, _∙_}
-use mathlib.Core.Logic.{_↔_, _⊎_, inl, inr}
+use mathlib.Core.Logic.{_⊎_, inl, inr}
 use mathlib.Core.Bool.{Bool, true, false, not, _||_}
 use mathlib.Core.List.{List, [], _∷_}
 use Prim.Native.Nat.{ℕ, zero, suc, _*_, _≤_, _<_}
 use native.Mathlib.Omega.{arith}
 use borrow.Author.Tests.{eq-eqb}
-use lib.ListN.{length, replicate}
+use lib.ListN.{length}
 use Rattle.walk.specs.Numbers.{le?, lt?}
 use Rattle.walk.specs.Units.{wide}
-use Rattle.walk.specs.Strings.{Draws, ones}
-use Rattle.walk.proofs.Tests.{test, Le?, le, gt, clash, le?-fails, le?-complete}
+use Rattle.walk.specs.Strings.{Draws}
+use Rattle.walk.proofs.Tests.{test, Le?, le, gt, clash}
 use Rattle.walk.proofs.Chances.{chances, meeting-counts, allowed-always}
 use Rattle.walk.proofs.Seams.{mark-nil, narrow-start}
 use Rattle.bucket_test.specs.Tests.{eq?, unless, firstRefusal}
@@ -18,7 +18,7 @@ use Rattle.bucket_test.specs.Plan.{thresholdAt, spendingOf, planRefusal,
 use Rattle.bucket_test.specs.Words.{partAt, wordsFit}
 use Rattle.bucket_test.specs.Turn.{recordAt}
 use Rattle.bucket_test.specs.Answers.{lowOf, highOf, anyWide, firstBucket, answerOf, answerBy, firstThatFits, isEnding, goesOn, refusalOf}
-use Rattle.bucket_test.specs.Draw.{Outcome, startState, beginRefusal, begun, drawRefusal, drawnBy, drawn}
+use Rattle.bucket_test.specs.Draw.{Outcome, beginRefusal, begun, drawRefusal, drawnBy, drawn}
 use Rattle.bucket_test.specs.Carried.{carried, hasEnded, takenBy, taken}
 use Rattle.bucket_test.specs.Demand3.{Marks, Stands, lastStep, AnswersDraw, Answered, Demand3, Demand3Theorem}
 use Rattle.bucket_test.proofs.Rules.{threshold-ok, spends, accepted}
@@ -26,9 +26,7 @@ use Rattle.bucket_test.proofs.Beginning.{start-open}
 use Rattle.bucket_test.proofs.Following.{marks-say, stands-at}
 use Rattle.bucket_test.proofs.Invariant.{markAt, recordAfter, partAfter, stateFor, wordsFor, History, start-state, start-words, record-at, mark-at, part-at, size-at, words-fit, state-sound, next-state, next-words, history-next}
 use Rattle.bucket_test.specs.declared.State.{State}
-use Rattle.bucket_test.specs.declared.Threshold.{Threshold}
 use Rattle.bucket_test.specs.declared.Plan.{Plan}
-use Rattle.bucket_test.specs.declared.Answer.{Answer}
 use Rattle.bucket_test.specs.declared.Answer.the-variants.{Refused}
 
 -- the answer rule refuses nothing

@@ -1,31 +1,26 @@
 -- One threshold of a carried test: its record and its part after the draws taken are what its walk and the string say, and one turn
 -- takes them one draw on. Cites laws of `walk` about boundaries and masses only. Assumes nothing.
 use mathlib.Core.Path.{_≡_, refl, sym, ap, _∙_}
-use mathlib.Core.Logic.{_↔_}
 use mathlib.Core.Bool.{Bool, true, false}
-use mathlib.Core.List.{List, [], _∷_, _++_}
-use Prim.Native.Nat.{ℕ, zero, suc, _+_, _-_, _≤_, _<_}
+use mathlib.Core.List.{List, _∷_}
+use Prim.Native.Nat.{ℕ, suc, _≤_}
 use native.Mathlib.Omega.{arith}
-use lib.ListN.{length, getD, replicate}
+use lib.ListN.{length}
 use Rattle.walk.specs.Numbers.{le?, lt?}
 use Rattle.walk.specs.Units.{million, wide}
 use Rattle.walk.specs.Spending.{IsSpending}
-use Rattle.walk.specs.Walk.{lower, walk, firstAt, upperAt, NoWideBefore}
-use Rattle.walk.specs.Row.{Row, upper, startRow, stepRow, rows}
+use Rattle.walk.specs.Walk.{firstAt, upperAt, NoWideBefore}
+use Rattle.walk.specs.Row.{Row, upper, startRow, rows}
 use Rattle.walk.specs.Strings.{Draws, ones, Side, Upper, Lower, judged, orElse, settled}
-use Rattle.walk.specs.Chance.{Meets}
 use Rattle.walk.specs.Record.{recordOf, padded}
-use Rattle.walk.specs.Soundness.{isSound}
 use Rattle.walk.specs.declared.Mark.{Mark}
 use Rattle.walk.specs.declared.Mark.the-variants.{Open, Above, AtMost}
-use Rattle.walk.specs.declared.Walked.{Walked}
 use Rattle.walk.proofs.Tests.{le?-complete}
 use Rattle.walk.proofs.RowSteps.{rows-fit}
 use Rattle.walk.proofs.Agreement.{order, not-wide}
 use Rattle.walk.proofs.Meeting.{mark-meets, mark-open}
 use Rattle.walk.proofs.Checks.{padded-length, row-back, walk-passes}
-use Rattle.walk.proofs.Seams.{rows-zero, rows-suc, markOf, verdictOf, mark-nil, mark-cons, verdict-row, verdict-record, record-walk, padded-word, open-inside, narrow-next, mass-word}
-use Rattle.bucket_test.specs.Tests.{within}
+use Rattle.walk.proofs.Seams.{rows-zero, rows-suc, markOf, verdictOf, mark-cons, verdict-row, verdict-record, record-walk, padded-word, open-inside, narrow-next, mass-word}
 use Rattle.bucket_test.specs.Turn.{startRecord, marked, walkedOn, turnRecord, turnPart, recordSound}
 use Rattle.bucket_test.specs.Demand3.{Marks, Stands, lastStep}
 use Rattle.bucket_test.specs.declared.Threshold.{Threshold}

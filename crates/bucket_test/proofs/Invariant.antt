@@ -1,25 +1,24 @@
 -- State and words of a carried test are what the walks and the draws taken say; 8 and 11 never refuse them; one more draw. Assumes
 -- nothing.
 use mathlib.Core.Path.{_≡_, refl, sym, ap, _∙_}
-use mathlib.Core.Logic.{_↔_}
-use mathlib.Core.Bool.{Bool, true, false, not, _&&_}
+use mathlib.Core.Bool.{Bool, true, false, _&&_}
 use mathlib.Core.List.{List, [], _∷_}
-use Prim.Native.Nat.{ℕ, zero, suc, _+_, _*_, _≤_, _<_}
+use Prim.Native.Nat.{ℕ, suc, _+_, _≤_, _<_}
 use native.Mathlib.Omega.{arith}
 use borrow.Author.Tests.{eq-eqb, eqb-false}
-use lib.ListN.{length, getD, replicate, length-replicate}
+use lib.ListN.{length, replicate, length-replicate}
 use Rattle.walk.specs.Numbers.{le?, lt?}
 use Rattle.walk.specs.Units.{wide}
-use Rattle.walk.specs.Walk.{below, NoWideBefore}
-use Rattle.walk.specs.Row.{Row, upper, startRow, rows}
-use Rattle.walk.specs.Strings.{Draws, ones, orElse, isOpen}
-use Rattle.walk.specs.Record.{recordOf, isWide}
+use Rattle.walk.specs.Walk.{NoWideBefore}
+use Rattle.walk.specs.Row.{Row, rows}
+use Rattle.walk.specs.Strings.{Draws, ones, isOpen}
+use Rattle.walk.specs.Record.{isWide}
 use Rattle.walk.specs.declared.Mark.{Mark}
-use Rattle.walk.specs.declared.Mark.the-variants.{Open, Above, AtMost}
+use Rattle.walk.specs.declared.Mark.the-variants.{Open}
 use Rattle.walk.proofs.Tests.{test, Le?, le, gt, clash, le?-complete}
 use Rattle.walk.proofs.Checks.{wide-record}
-use Rattle.walk.proofs.Seams.{markOf, verdictOf, mark-nil, mark-cons}
-use Rattle.bucket_test.specs.Tests.{eq?, allTo, anyTo, overTo, joinTo}
+use Rattle.walk.proofs.Seams.{markOf, mark-nil, mark-cons}
+use Rattle.bucket_test.specs.Tests.{eq?, overTo, joinTo}
 use Rattle.bucket_test.specs.Plan.{thresholdAt, spendingOf, Accepted}
 use Rattle.bucket_test.specs.Words.{partAt, wordsFit}
 use Rattle.bucket_test.specs.Turn.{startRecord, noRecord, recordAt, turnRecord, turnPart, recordSound}
@@ -29,7 +28,7 @@ use Rattle.bucket_test.specs.Demand3.{lastStep}
 use Rattle.bucket_test.proofs.PlaceLaws.{all-reads, none-reads}
 use Rattle.bucket_test.proofs.PlaceLists.{over-get, over-over, over-same, join-cong, join-length, join-part}
 use Rattle.bucket_test.proofs.Rules.{threshold-ok, spends}
-use Rattle.bucket_test.proofs.Following.{rowAt, recordFor, partFor, mark-for, start-for, turn-record, turn-part, part-size, record-sound, narrow-on}
+use Rattle.bucket_test.proofs.Following.{recordFor, partFor, mark-for, start-for, turn-record, turn-part, part-size, record-sound, narrow-on}
 use Rattle.bucket_test.specs.declared.Threshold.{Threshold}
 use Rattle.bucket_test.specs.declared.State.{State}
 use Rattle.bucket_test.specs.declared.Plan.{Plan}

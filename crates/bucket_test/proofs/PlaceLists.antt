@@ -1,11 +1,11 @@
 -- Laws of lists made place by place (specs/Tests, specs/Words). Assumes nothing.
-use mathlib.Core.Path.{_≡_, refl, sym, ap, _∙_}
+use mathlib.Core.Path.{_≡_, refl, sym, ap}
 use mathlib.Core.Logic.{_⊎_, inl, inr}
 use mathlib.Core.List.{List, [], _∷_, _++_, append-assoc, append-nil}
-use Prim.Native.Nat.{ℕ, zero, suc, _+_, _*_, _≤_, _<_}
+use Prim.Native.Nat.{ℕ, zero, suc, _*_, _<_}
 use native.Mathlib.Nat.{eq-or-lt-of-le, mul-zero, mul-suc}
 use native.Mathlib.Omega.{arith}
-use lib.ListN.{length, take, drop, set, getD, replicate, length-append}
+use lib.ListN.{length, drop, set, getD, replicate, length-append}
 use lib.Seq.{take-at, drop-at}
 use Rattle.walk.specs.Units.{wide}
 use Rattle.bucket_test.specs.Tests.{overTo, joinTo}

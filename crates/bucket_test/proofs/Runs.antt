@@ -3,7 +3,7 @@
 use mathlib.Core.Path.{_≡_, refl, sym, ap, _∙_}
 use mathlib.Core.Bool.{Bool, true, false}
 use mathlib.Core.List.{List, [], _∷_}
-use Prim.Native.Nat.{ℕ, zero, suc, _*_, _≤_, _<_}
+use Prim.Native.Nat.{ℕ, zero, suc, _*_, _<_}
 use native.Mathlib.Omega.{arith}
 use lib.ListN.{length, take}
 use lib.Seq.{take-nil}
@@ -17,7 +17,7 @@ use Rattle.bucket_test.specs.Demand3.{Answered}
 use Rattle.bucket_test.proofs.Rules.{accepted}
 use Rattle.bucket_test.proofs.Demand.{held}
 use Rattle.bucket_test.specs.declared.Answer.{Answer}
-use Rattle.bucket_test.specs.declared.Answer.the-variants.{Open, Decided, Crossed, Wide, Spent, Refused}
+use Rattle.bucket_test.specs.declared.Answer.the-variants.{Refused}
 use Rattle.bucket_test.specs.declared.Plan.{Plan}
 
 open-no-refusal : (a : Answer) → goesOn a ≡ true → (r : ℕ) → ¬ (a ≡ Refused r)

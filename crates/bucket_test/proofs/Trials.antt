@@ -1,6 +1,6 @@
 -- P1 to P10 of 01, in one statement. Assumes nothing.
 use mathlib.Core.Path.{_≡_, refl}
-use Rattle.walk.specs.Numbers.{le?, eqZ?, searchUp, searchDown}
+use Rattle.walk.specs.Numbers.{le?, searchUp, searchDown}
 use Rattle.walk.specs.Units.{M, million, allowanceLimit, horizonLimit}
 use Rattle.walk.specs.Spending.{spending}
 use Rattle.walk.specs.Mass.{rounds, roundUp, reaching, massUp}

@@ -2,7 +2,7 @@
 -- are below 1,000,000.
 use mathlib.Core.Bool.{Bool, true, false, _&&_}
 use mathlib.Core.List.{List, [], _∷_}
-use Prim.Native.Nat.{ℕ, zero, suc}
+use Prim.Native.Nat.{ℕ, suc}
 use Rattle.walk.specs.Numbers.{le?, lt?, only, choose, searchUp}
 use Rattle.walk.specs.Units.{million}
 use Rattle.walk.specs.Strings.{Upper, Lower, isOn, isOpen}

@@ -11,9 +11,7 @@ use Rattle.walk.specs.Strings.{Draws}
 use Rattle.bucket_test.specs.Plan.{Accepted}
 use Rattle.bucket_test.specs.Answers.{isEnding, goesOn, refusalOf, answerOf}
 use Rattle.bucket_test.specs.Draw.{Outcome, begun, drawn, drawnAll}
-use Rattle.bucket_test.specs.declared.State.{State}
 use Rattle.bucket_test.specs.declared.Plan.{Plan}
-use Rattle.bucket_test.specs.declared.Answer.{Answer}
 
 -- what the last call handed back, after the draws ds from a beginning on these words
 unfoldable pub carried : Plan → List ℕ → List ℕ → Outcome

@@ -1,6 +1,6 @@
 -- The trials of 01 that are proved, P1 to P10: what is computed from the definitions beside what 01 prints, a line each.
 use mathlib.Core.List.{List, [], _∷_, map}
-use Prim.Native.Nat.{ℕ, zero, suc}
+use Prim.Native.Nat.{ℕ}
 use lib.IntN.{ℤ, pos, negsuc}
 use lib.ListN.{replicate}
 use Rattle.walk.specs.Numbers.{sum}
@@ -13,7 +13,6 @@ use Rattle.walk.specs.declared.Mark.the-variants.{Open, Above, AtMost}
 use Rattle.bucket_test.specs.Plan.{thresholdAt, spendingOf, planRefusal}
 use Rattle.bucket_test.specs.Turn.{startRecord}
 use Rattle.bucket_test.specs.Answers.{lowOf, highOf, answerOf, wordOf}
-use Rattle.bucket_test.specs.declared.Threshold.{Threshold}
 use Rattle.bucket_test.specs.declared.State.{State}
 use Rattle.bucket_test.specs.declared.Plan.{Plan}
 

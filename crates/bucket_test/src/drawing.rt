@@ -145,7 +145,7 @@ pub fn report_on(p: Plan, s: State) -> Report
 }
 
 // Whether an answer is `open`.
-fn is_open(a: Answer) -> bool
+pub fn is_open(a: Answer) -> bool
     ensures { λ r. ⌜ r ≡ goesOn a ⌝ }
 {
     match a {

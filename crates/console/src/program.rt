@@ -3,18 +3,18 @@
 use crate::feeding::feed;
 use crate::line::line_of;
 use crate::line::refused_line;
-use bucket_test::Answer;
 use bucket_test::Drawn;
 use bucket_test::Plan;
 use bucket_test::Report;
 use bucket_test::drawing::begin;
+use bucket_test::drawing::is_open;
 use bucket_test::drawing::report_on;
 use stored_plan::reading::read_plan;
 ghost use mathlib.Core.Path.{_≡_};
 ghost use Prim.Native.Nat.{_≤_};
 ghost use lib.ListN.{take};
 ghost use Rattle.io.specs.Counts.{Counts};
-ghost use Rattle.bucket_test.specs.Answers.{goesOn, valuesOf};
+ghost use Rattle.bucket_test.specs.Answers.{valuesOf};
 ghost use Rattle.bucket_test.specs.Draw.{report};
 ghost use Rattle.console.specs.Line.{lineOf};
 
@@ -22,20 +22,6 @@ ghost use Rattle.console.specs.Line.{lineOf};
 struct Turn {
     more: bool,
     drawn: Drawn,
-}
-
-// Whether an answer is `open`.
-fn is_open(a: Answer) -> bool
-    ensures { λ r. ⌜ r ≡ goesOn a ⌝ }
-{
-    match a {
-        Answer::Open => true,
-        Answer::Decided(_) => false,
-        Answer::Crossed => false,
-        Answer::Wide => false,
-        Answer::Spent => false,
-        Answer::Refused(_) => false,
-    }
 }
 
 // One read, and the draws in it; none at the end of input.

@@ -1,20 +1,20 @@
 -- The two forms of the walk agree at every step: the row's boundaries are the smallest and the largest of rules 2 and 3, and what a step
 -- makes of the row is what it makes of the masses by count. Assumes nothing.
-use mathlib.Core.Path.{_≡_, refl, sym, ap, _∙_, fun-ext, ap₂}
+use mathlib.Core.Path.{_≡_, refl, sym, ap, _∙_, fun-ext}
 use mathlib.Core.Logic.{_↔_}
-use mathlib.Core.Bool.{Bool, true, false, _&&_}
+use mathlib.Core.Bool.{Bool, true, false}
 use mathlib.Core.List.{List, [], _∷_}
 use Prim.Native.Nat.{ℕ, zero, suc, _+_, _-_, _≤_, _<_}
 use native.Mathlib.Nat.{add-zero, add-suc, zero-add, add-sub-cancel-left, add-assoc, lt-of-not-le}
 use native.Mathlib.Omega.{arith}
-use lib.ListN.{length, take, drop, getD, length-take, length-drop, List·getD-eq-default}
+use lib.ListN.{length, take, drop, getD, length-take, List·getD-eq-default}
 use lib.Seq.{getD-take, getD-drop, take-all}
 use Rattle.walk.specs.Numbers.{le?, lt?, between, only, sumTo, sum, Smallest, Largest}
 use Rattle.walk.specs.Units.{M, million, wide}
 use Rattle.walk.specs.Spending.{IsSpending}
 use Rattle.walk.specs.Mass.{massUp}
-use Rattle.walk.specs.Walk.{Walk, previous, cellwise, newMass, massFrom, massBelow, FitsUpper, FitsLower, upperBoundary, firstLive, start, absorbed, stepWalk, walk, firstAt, upperAt, Wide, NoWideBefore}
-use Rattle.walk.specs.Row.{Row, upper, byCount, startRow, cellsBy, newMasses, kept, dropped, cut, stepRow, rows, Sound, SoundAt}
+use Rattle.walk.specs.Walk.{Walk, previous, cellwise, newMass, massFrom, massBelow, FitsUpper, FitsLower, upperBoundary, firstLive, start, absorbed, stepWalk, walk, firstAt, upperAt, NoWideBefore}
+use Rattle.walk.specs.Row.{Row, upper, byCount, startRow, cellsBy, newMasses, kept, dropped, cut, stepRow, rows, Sound}
 use Rattle.walk.specs.Facts.{asWalk, Same}
 use Rattle.walk.proofs.Tests.{test, Le?, le, gt, le?-complete, le?-fails, only-fails, only-holds, sum-cong, sum-le, sum-zero}
 use Rattle.walk.proofs.Lists.{sum-take-suc, sum-take-drop}

@@ -2,7 +2,7 @@
 use mathlib.Core.Path.{_≡_, refl, ap, _∙_}
 use mathlib.Core.Bool.{Bool, true, false}
 use mathlib.Core.Logic.{_↔_}
-use Prim.Native.Nat.{ℕ, zero, suc, _+_, _*_, _-_, _^_, _≤_, _<_}
+use Prim.Native.Nat.{ℕ, zero, suc, _+_, _*_, _-_, _^_, _≤_}
 use native.Mathlib.Nat.{sub-add-cancel, mul-le-mul-right, pow-suc, pow-zero, le-trans, le-of-lt}
 use native.Mathlib.Omega.{arith}
 use lib.ListN.{length}
@@ -10,15 +10,15 @@ use Rattle.walk.specs.Numbers.{le?, lt?, between, only, sumTo, sum}
 use Rattle.walk.specs.Units.{M, million, wide}
 use Rattle.walk.specs.Spending.{IsSpending}
 use Rattle.walk.specs.Mass.{reaching}
-use Rattle.walk.specs.Walk.{Walk, previous, newMass, massFrom, massBelow, start, absorbed, stepWalk, walk, firstAt, upperAt, NoWideBefore}
-use Rattle.walk.specs.Row.{Row, total, rows, roundedBy}
+use Rattle.walk.specs.Walk.{previous, newMass, massFrom, massBelow, start, absorbed, stepWalk, walk, firstAt, upperAt, NoWideBefore}
+use Rattle.walk.specs.Row.{total, rows, roundedBy}
 use Rattle.walk.specs.Strings.{Draws, weight, Side, Upper, Lower, verdict, mark, isOn, isOpen, chance}
 use Rattle.walk.specs.Facts.{massOf}
 use Rattle.walk.specs.Chance.{Meets, meeting, spent, Bounds, ChanceTheorem, AllowedTheorem}
 use Rattle.walk.proofs.Tests.{only-scale, sum-cong, sum-le, sum-mul}
 use Rattle.walk.proofs.Rounding.{mass-ge}
 use Rattle.walk.proofs.RowSteps.{rows-sound, rows-total, rounded-few}
-use Rattle.walk.proofs.Agreement.{at-total, same, first-at, upper-at, order, not-wide}
+use Rattle.walk.proofs.Agreement.{at-total, same, order, not-wide}
 use Rattle.walk.proofs.Exact.{shifted, exact, met, exact-suc, met-zero, met-suc, met-sum, whole, open-off, verdict-tests}
 use Rattle.walk.proofs.StringLaws.{strings-le}
 use Rattle.walk.proofs.Meeting.{mark-on}

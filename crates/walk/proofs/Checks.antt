@@ -1,11 +1,11 @@
 -- What refusal 11 leaves: a row that may walk on; and it never refuses a row of the walk. Assumes nothing.
 use mathlib.Core.Path.{_≡_, refl, sym, ap, _∙_}
-use mathlib.Core.Bool.{Bool, true, false, _&&_}
+use mathlib.Core.Bool.{true, false}
 use mathlib.Core.List.{List, _++_}
 use Prim.Native.Nat.{ℕ, suc, _+_, _-_, _≤_, _<_}
 use native.Mathlib.Omega.{arith}
 use borrow.Author.Tests.{leb-true, le-leb, eqb-false}
-use lib.Dec.{leb, eqb}
+use lib.Dec.{eqb}
 use lib.IntN.{ℤ, pos, negsuc, _-ℤ_}
 use lib.ListN.{length, take, replicate, length-append, length-replicate}
 use lib.Seq.{length-take-le, take-at}
@@ -14,7 +14,7 @@ use Rattle.walk.specs.Numbers.{le?, lt?, eqZ?, allUpTo}
 use Rattle.walk.specs.Units.{M, million, wide, massLimit, horizonLimit}
 use Rattle.walk.specs.Spending.{IsSpending}
 use Rattle.walk.specs.Walk.{below}
-use Rattle.walk.specs.Row.{Row, upper, total, rows, Sound, SoundAt}
+use Rattle.walk.specs.Row.{Row, upper, total, rows, SoundAt}
 use Rattle.walk.specs.Record.{firstAbove, rowOf, recordOf, isWide, padded}
 use Rattle.walk.specs.Soundness.{boundariesSound, isSound, Steppable}
 use Rattle.walk.specs.declared.Walked.{Walked}

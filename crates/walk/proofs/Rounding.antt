@@ -1,11 +1,11 @@
 -- Rounding up, and one new mass. Assumes nothing.
-use mathlib.Core.Path.{_≡_, refl, sym, ap, _∙_}
+use mathlib.Core.Path.{_≡_, sym, ap, _∙_}
 use mathlib.Core.Bool.{Bool, true, false}
-use Prim.Native.Nat.{ℕ, suc, _+_, _*_, _-_, _/_, _%_, _≤_, _<_}
+use Prim.Native.Nat.{ℕ, _+_, _*_, _-_, _/_, _%_, _≤_}
 use native.Mathlib.Nat.{mul-add, mul-le-mul-right}
 use native.Mathlib.Omega.{arith}
 use Rattle.walk.specs.Numbers.{le?, lt?, only}
-use Rattle.walk.specs.Units.{million, massLimit}
+use Rattle.walk.specs.Units.{million}
 use Rattle.walk.specs.Mass.{rounds, roundUp, reaching, massUp, rounded}
 use Rattle.walk.proofs.Tests.{test, Le?, le, gt, only-le}
 

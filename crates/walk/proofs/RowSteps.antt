@@ -1,16 +1,16 @@
 -- What one step does to any sound row, and what therefore holds of the walk's rows at every step. Assumes nothing.
-use mathlib.Core.Path.{_≡_, refl, ap}
-use mathlib.Core.Bool.{Bool, true}
-use mathlib.Core.List.{List, [], _∷_}
+use mathlib.Core.Path.{_≡_, refl}
+use mathlib.Core.Bool.{true}
+use mathlib.Core.List.{List}
 use Prim.Native.Nat.{ℕ, zero, suc, _+_, _*_, _-_, _≤_, _<_}
 use native.Mathlib.Omega.{arith}
-use lib.ListN.{length, take, drop, length-drop}
+use lib.ListN.{length, drop, length-drop}
 use lib.Seq.{length-take-le}
 use Rattle.walk.specs.Numbers.{sum, allUpTo}
 use Rattle.walk.specs.Units.{M, million, wide}
 use Rattle.walk.specs.Spending.{IsSpending}
 use Rattle.walk.specs.Mass.{massUp}
-use Rattle.walk.specs.Row.{Row, upper, total, startRow, newMasses, roundings, kept, dropped, cut, stepRow, rows, roundedBy, Sound, SoundAt}
+use Rattle.walk.specs.Row.{Row, upper, total, startRow, newMasses, kept, dropped, cut, stepRow, rows, roundedBy, Sound, SoundAt}
 use Rattle.walk.specs.Facts.{Moves}
 use Rattle.walk.proofs.Tests.{le?-complete}
 use Rattle.walk.proofs.Lists.{sum-three, all-take, all-drop}

@@ -4,7 +4,7 @@ use mathlib.Core.Logic.{_⊎_, inl, inr}
 use mathlib.Core.Bool.{Bool, true, false}
 use mathlib.Core.List.{List, [], _∷_, _++_}
 use Prim.Native.Nat.{ℕ, zero, suc, _+_, _-_, _≤_, _<_}
-use native.Mathlib.Nat.{eq-or-lt-of-le, le-of-lt}
+use native.Mathlib.Nat.{eq-or-lt-of-le}
 use native.Mathlib.Omega.{arith}
 use lib.IntN.{pos, negsuc}
 use lib.ListN.{length, getD, replicate}
@@ -13,7 +13,7 @@ use Rattle.walk.specs.Numbers.{le?, lt?, eqZ?}
 use Rattle.walk.specs.Units.{M, million, wide}
 use Rattle.walk.specs.Spending.{IsSpending}
 use Rattle.walk.specs.Walk.{below, lower, walk, firstAt, upperAt, NoWideBefore}
-use Rattle.walk.specs.Row.{Row, upper, startRow, stepRow, rows}
+use Rattle.walk.specs.Row.{upper, startRow, stepRow, rows}
 use Rattle.walk.specs.Strings.{Draws, ones, judged, verdict, orElse, mark, isOpen}
 use Rattle.walk.specs.Record.{recordOf, isWide, padded}
 use Rattle.walk.specs.declared.Mark.the-variants.{Open, Above, AtMost}

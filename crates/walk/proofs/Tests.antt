@@ -1,11 +1,11 @@
 -- Laws of the tests, choices and sums of specs/Numbers. Assumes nothing.
-use mathlib.Core.Path.{_≡_, refl, sym, ap, _∙_}
+use mathlib.Core.Path.{_≡_, refl, sym}
 use mathlib.Core.Bool.{Bool, true, false, not, _&&_}
-use Prim.Native.Nat.{ℕ, zero, suc, _+_, _*_, _≤_, _<_}
+use Prim.Native.Nat.{ℕ, zero, suc, _*_, _≤_, _<_}
 use native.Mathlib.Nat.{zero-mul}
 use native.Mathlib.Omega.{arith}
 use lib.Dec.{T, leb, leb→le, nleb→lt}
-use Rattle.walk.specs.Numbers.{le?, lt?, between, only, sumTo}
+use Rattle.walk.specs.Numbers.{le?, only, sumTo}
 
 -- which way a test goes, with what it says
 pub data Le? (m n : ℕ) : Bool → Type 0 where

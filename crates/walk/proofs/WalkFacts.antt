@@ -1,18 +1,16 @@
 -- The facts of 01: of one step from any sound row, and of the walk at every step. Assumes nothing.
-use mathlib.Core.Path.{_≡_, refl, sym, ap, _∙_}
-use Prim.Native.Nat.{ℕ, suc, _+_, _*_, _-_, _≤_, _<_}
+use Prim.Native.Nat.{ℕ, suc, _+_, _-_, _≤_, _<_}
 use native.Mathlib.Omega.{arith}
 use lib.Dec.{le→leb}
-use lib.IntN.{ℤ, pos, _-ℤ_}
+use lib.IntN.{pos, _-ℤ_}
 use lib.ListN.{getD}
 use lib.Signed.{_≤ℤ_, leZ-yes}
-use Rattle.walk.specs.Numbers.{le?, only, Smallest, Largest}
-use Rattle.walk.specs.Units.{M, million, wide}
-use Rattle.walk.specs.Spending.{IsSpending}
+use Rattle.walk.specs.Numbers.{le?, Smallest, Largest}
+use Rattle.walk.specs.Units.{M}
 use Rattle.walk.specs.Walk.{below, lower, newMass, FitsUpper, FitsLower, absorbed, stepWalk, walk}
 use Rattle.walk.specs.Row.{byCount, rows}
 use Rattle.walk.specs.Strings.{Upper, Lower}
-use Rattle.walk.specs.Facts.{StepTheorem, WalkFacts, WalkTheorem}
+use Rattle.walk.specs.Facts.{StepTheorem, WalkTheorem}
 use Rattle.walk.proofs.Tests.{only-le}
 use Rattle.walk.proofs.Lists.{all-getD}
 use Rattle.walk.proofs.Boundaries.{below-rises, apart-below}

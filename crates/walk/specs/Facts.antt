@@ -1,8 +1,8 @@
 -- What is claimed of one step and of a walk (01, "Facts to be proved").
 use mathlib.Core.Path.{_≡_}
 use mathlib.Core.Bool.{true}
-use Prim.Native.Nat.{ℕ, suc, _+_, _*_, _≤_, _<_}
-use lib.IntN.{ℤ, pos, _-ℤ_}
+use Prim.Native.Nat.{ℕ, suc, _+_, _*_, _≤_}
+use lib.IntN.{pos, _-ℤ_}
 use lib.ListN.{length}
 use lib.Signed.{_≤ℤ_}
 use Rattle.walk.specs.Numbers.{Smallest, Largest, sumTo, allUpTo}

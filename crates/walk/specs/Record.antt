@@ -1,7 +1,7 @@
 -- A row as the code holds it: a record with a signed lower boundary, and the 769 words of the threshold's part.
 use mathlib.Core.Bool.{Bool}
 use mathlib.Core.List.{List, _++_}
-use Prim.Native.Nat.{ℕ, zero, suc, _+_, _-_}
+use Prim.Native.Nat.{ℕ, suc, _-_}
 use lib.IntN.{ℤ, pos, negsuc, _-ℤ_}
 use lib.ListN.{length, take, replicate}
 use Rattle.walk.specs.Numbers.{eqZ?}

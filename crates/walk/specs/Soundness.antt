@@ -3,13 +3,13 @@ use mathlib.Core.Path.{_≡_}
 use mathlib.Core.Bool.{Bool, true, false, _&&_}
 use mathlib.Core.List.{List}
 use Prim.Native.Nat.{ℕ, suc, _+_, _≤_, _<_}
-use lib.IntN.{ℤ, pos, negsuc, _-ℤ_}
+use lib.IntN.{pos, negsuc, _-ℤ_}
 use lib.Signed.{leZ, ltZ}
 use lib.ListN.{length}
 use Rattle.walk.specs.Numbers.{le?, lt?, allUpTo}
 use Rattle.walk.specs.Units.{M, million, wide, massLimit, horizonLimit}
 use Rattle.walk.specs.Walk.{below}
-use Rattle.walk.specs.Row.{Row, Sound, total}
+use Rattle.walk.specs.Row.{Sound, total}
 use Rattle.walk.specs.Record.{firstAbove, rowOf}
 use Rattle.walk.specs.declared.Walked.{Walked}
 use Rattle.walk.specs.declared.soundness.Masses.{Masses}

@@ -1,6 +1,5 @@
 -- Each return is one case of the rule.
-use mathlib.Core.Path.{_≡_, sym, _∙_}
-use native.Mathlib.Omega.{arith}
+use mathlib.Core.Path.{sym, _∙_}
 use borrow.Author.Needs.{needs}
 use Rattle.bucket_test.proofs.AnsweringLaws.{crossed, decided, wide, spent, open-yet}
 use Rattle.bucket_test.proofs.answering.answer_of.Statement.{statement}

@@ -1,5 +1,4 @@
 -- The two tests of the definition, one after the other.
-use mathlib.Core.Path.{_≡_, sym}
 use Rattle.walk.specs.Numbers.{le?}
 use Rattle.walk.proofs.Tests.{le?-complete, le?-fails}
 use Rattle.bucket_test.proofs.answering.holds_interval.Statement.{statement}

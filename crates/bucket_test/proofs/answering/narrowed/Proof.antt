@@ -1,9 +1,6 @@
 -- By cases on the mark; the larger or the smaller of two is what the test leaves.
-use mathlib.Core.Path.{_≡_}
-use Prim.Native.Nat.{ℕ, _≤_, max, min}
 use native.Mathlib.Omega.{arith}
 use borrow.Author.Needs.{needs}
-use Rattle.walk.specs.Units.{million}
 use Rattle.bucket_test.proofs.answering.narrowed.Statement.{statement}
 use Rattle.bucket_test.proofs.answering.narrowed.Tie as tie
 

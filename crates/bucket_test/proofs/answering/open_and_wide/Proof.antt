@@ -1,10 +1,5 @@
 -- By cases on the mark.
-use mathlib.Core.Path.{_≡_, sym, ap, _∙_}
-use mathlib.Core.Bool.{Bool, _&&_}
 use borrow.Author.Needs.{needs}
-use Rattle.walk.specs.Strings.{isOpen}
-use Rattle.walk.specs.Record.{isWide}
-use Rattle.walk.specs.declared.Mark.{Mark}
 use Rattle.bucket_test.proofs.answering.open_and_wide.Statement.{statement}
 use Rattle.bucket_test.proofs.answering.open_and_wide.Tie as tie
 
