@@ -1,10 +1,37 @@
 // The trials of 01 that are not marked P, and the program's other ends: each a run on a plan and an input of data/, one line for each.
+
+use bucket_test::drawing::begin;
+use bucket_test::drawing::draw;
+use bucket_test::drawing::draw_all;
+use console::program::last_line;
+use stored_plan::reading::read_plan;
+
 fn trial(plan: &[u8], input: &[u8], words: &mut [u64]) {
     let fd = os::open_read(input);
     console::program::run(plan, fd, libc::STDOUT_FILENO, words);
     if 0 <= fd {
         libc::close(fd);
     }
+}
+
+// One draw more to plan F, which five ones have ended: no program hands one over.
+fn after_the_end(d: u8) {
+    let mut bytes = [0u8; 44];
+    let fd = os::open_read(b"f.plan");
+    let n = io::read_full(fd, &mut bytes);
+    libc::close(fd);
+    let got = read_plan(&bytes[..n]);
+    let p = got.plan;
+    let mut words = [0u64; 769];
+    let begun = begin(p, &mut words);
+    let first = begun.state;
+    let ones = [1u8; 5];
+    let ended = draw_all(p, first, &mut words, &ones);
+    let last = ended.state;
+    let again = draw(p, last, &mut words, d);
+    let mut out = [0u8; 64];
+    let len = last_line(p, again, &mut out);
+    io::write_all(libc::STDOUT_FILENO, &out[..len]);
 }
 
 fn main() {
@@ -21,4 +48,6 @@ fn main() {
     trial(b"f.plan", b"foreign", &mut words);
     trial(b"f.plan", b"newlines", &mut words);
     trial(b"f.plan", b"after", &mut words);
+    after_the_end(2);
+    after_the_end(1);
 }
