@@ -7,8 +7,7 @@ use Prim.Native.Nat.{ℕ, zero, suc, _+_, _≤_, _<_}
 use native.Mathlib.Nat.{eq-or-lt-of-le}
 use native.Mathlib.Numerals.{add-one}
 use native.Mathlib.Omega.{arith}
-use borrow.Author.Tests.{eqb-true, eqb-false, eq-eqb, ne-eqb, not-true, not-false}
-use lib.Dec.{eqb}
+use borrow.Author.Tests.{eqb-true, eq-eqb, ne-eqb, not-true, not-false}
 use Rattle.walk.specs.Numbers.{le?}
 use Rattle.walk.proofs.Tests.{Le?, le, gt, test, clash, and-true, le?-sound, le?-complete, le?-fails}
 use Rattle.bucket_test.specs.Tests.{eq?, within, allTo, anyTo, unless, firstRefusal}
@@ -60,19 +59,6 @@ le-or-lt m n = go (le? m n) (test m n)
 
 pub le-reads : (m n : ℕ) → (le? m n ≡ true) ↔ (m ≤ n)
 le-reads m n = (le?-sound m n, le?-complete m n)
-
--- which way a test of equality goes, with what it says
-pub data Eq? (m n : ℕ) : Bool → Type 0 where
-  eq : m ≡ n → Eq? m n true
-  ne : ¬ (m ≡ n) → Eq? m n false
-
-pub test-eq : (m n : ℕ) → Eq? m n (eq? m n)
-unfolding eq?
-test-eq m n = go (eqb m n) (eqb-true m n) (eqb-false m n)
-  where
-    go : (b : Bool) → (b ≡ true → m ≡ n) → (b ≡ false → ¬ (m ≡ n)) → Eq? m n b
-    go true f g = eq (f refl)
-    go false f g = ne (g refl)
 
 pub eq?-sound : (m n : ℕ) → eq? m n ≡ true → m ≡ n
 unfolding eq?

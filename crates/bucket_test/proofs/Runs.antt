@@ -11,7 +11,7 @@ use Rattle.walk.specs.Units.{wide}
 use Rattle.walk.proofs.Tests.{clash}
 use Rattle.bucket_test.specs.Plan.{planRefusal, Accepted}
 use Rattle.bucket_test.specs.Answers.{answerOf, goesOn}
-use Rattle.bucket_test.specs.Draw.{Outcome, unlessOpen, report, drawn, drawnAll}
+use Rattle.bucket_test.specs.Draw.{Outcome, unlessOpen, report, drawnAll}
 use Rattle.bucket_test.specs.Carried.{carried, after, RunsTo, RunTheorem}
 use Rattle.bucket_test.specs.Demand3.{Answered}
 use Rattle.bucket_test.proofs.Rules.{accepted}
@@ -28,10 +28,6 @@ module _ (p : Plan) (ok : Accepted p) (good : planRefusal p ≡ 0) (words : List
   open-rule : (d : ℕ) (ds : List ℕ) → goesOn (carried p words (d ∷ ds) .answer) ≡ true → carried p words (d ∷ ds) .answer ≡ answerOf p (carried p words (d ∷ ds) .state)
   unfolding Answered
   open-rule d ds e = held p ok good words size (d ∷ ds) .answered .0 .by-rule (open-no-refusal (carried p words (d ∷ ds) .answer) e)
-
-  carried-cons : (d : ℕ) (ds : List ℕ) → drawn p (carried p words ds .state) (carried p words ds .words) d ≡ carried p words (d ∷ ds)
-  unfolding carried
-  carried-cons d ds = refl
 
   abbrev run : List ℕ → List ℕ → Outcome
   run ds es = drawnAll p (carried p words ds .state) (carried p words ds .words) es

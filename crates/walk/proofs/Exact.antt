@@ -9,7 +9,7 @@ use Rattle.walk.specs.declared.Mark.the-variants.{Open, Above, AtMost}
 use Rattle.walk.specs.Numbers.{le?, lt?, between, only, sumTo}
 use Rattle.walk.specs.Walk.{previous, cellwise}
 use Rattle.walk.specs.Strings.{Draws, ones, weight, sumStrings, Side, Upper, Lower, judged, verdict, orElse, mark, isOn, isOpen}
-use Rattle.walk.proofs.Tests.{Le?, le, gt, test, le?-complete, le?-fails, only-zero, only-one, only-swap, sum-cong, sum-mul}
+use Rattle.walk.proofs.Tests.{Le?, le, gt, test, le?-complete, le?-fails, only-zero, only-one, only-swap, sum-cong}
 use Rattle.walk.proofs.StringLaws.{strings-cong, strings-add, strings-mul, strings-whole}
 
 -- weights by count, one draw later and with no boundary
@@ -27,13 +27,6 @@ shifted-sum x z g h n e = rw e (omega (arith, go n))
     go : (n : ℕ) → sumTo n (λ c. shifted x z g c * h c) + previous g n * x * h n ≡ sumTo n (λ c. g c * ahead x z h c)
     go zero = omega arith
     go (suc n) = omega (arith, go n)
-
-pub shifted-total : (x z : ℕ) (g : ℕ → ℕ) (n : ℕ) → g n ≡ 0 → sumTo (suc n) (shifted x z g) ≡ sumTo n g * (z + x)
-shifted-total x z g n e =
-    sum-cong (suc n) _ (λ c. shifted x z g c * 1) (λ c l. omega arith)
-    ∙ shifted-sum x z g (λ _. 1) n e
-    ∙ sum-cong n _ (λ c. g c * (z + x)) (λ c l. omega arith)
-    ∙ sum-mul n g (z + x)
 
 -- an open mark is on no side
 pub open-off : (side : Side) → isOn side Open ≡ false

@@ -4,7 +4,7 @@ use mathlib.Core.Bool.{Bool, true, false}
 use Prim.Native.Nat.{ℕ, _+_, _*_, _-_, _/_, _%_, _≤_}
 use native.Mathlib.Nat.{mul-add, mul-le-mul-right}
 use native.Mathlib.Omega.{arith}
-use Rattle.walk.specs.Numbers.{le?, lt?, only}
+use Rattle.walk.specs.Numbers.{lt?, only}
 use Rattle.walk.specs.Units.{million}
 use Rattle.walk.specs.Mass.{rounds, roundUp, reaching, massUp, rounded}
 use Rattle.walk.proofs.Tests.{test, Le?, le, gt, only-le}
@@ -45,10 +45,6 @@ whole-threshold x a h =
 pub mass-none : (a : ℕ) → massUp a 0 0 ≡ 0
 unfolding massUp reaching
 mass-none a = let e : 0 * (million - a) + 0 * a ≡ 0 = omega arith in rw (e, ← (round-up-is 0))
-
-pub rounded-none : (a : ℕ) → rounded a 0 0 ≡ 0
-unfolding rounded reaching rounds million le?
-rounded-none a = let e : 0 * (1000000 - a) + 0 * a ≡ 0 = omega arith in rw e
 
 module _ (a stay come : ℕ) where
   pub mass-ge : reaching a stay come ≤ massUp a stay come * million
