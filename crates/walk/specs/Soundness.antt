@@ -12,8 +12,6 @@ use Rattle.walk.specs.Walk.{below}
 use Rattle.walk.specs.Row.{Sound, total}
 use Rattle.walk.specs.Record.{firstAbove, rowOf}
 use Rattle.walk.specs.declared.Walked.{Walked}
-use Rattle.walk.specs.declared.soundness.Masses.{Masses}
-use Rattle.walk.specs.declared.soundness.Masses.the-variants.{TooLarge, Total}
 
 -- 01, refusal 11, of an open threshold, in its order: n draws with s ones, e = E(n). Of any record and any words.
 module _ (e n s : ℕ) (w : Walked) where
@@ -46,8 +44,3 @@ pub record Steppable (a e : ℕ) (w : Walked) (words : List ℕ) : Type 0 where
   pub early : w .upper ≤ suc horizonLimit
   pub small : allUpTo massLimit (rowOf w words .masses) ≡ true
   pub sound : Sound e (rowOf w words)
-
--- one pass over the live words: whether each is small enough, and their sum
-abbrev pub summed : Bool → ℕ → Masses
-summed true total = Total total
-summed false total = TooLarge

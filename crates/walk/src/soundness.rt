@@ -2,19 +2,14 @@
 
 use crate::Walked;
 ghost use mathlib.Core.Path.{_≡_};
+ghost use mathlib.Core.Bool.{true};
 ghost use Prim.Native.Nat.{_+_, _-_, _≤_};
 ghost use lib.ListN.{length};
 ghost use Rattle.walk.specs.Numbers.{le?, choose, sum, allUpTo};
 ghost use Rattle.walk.specs.Units.{M, massLimit, wide};
 ghost use Rattle.walk.specs.Walk.{below};
 ghost use Rattle.walk.specs.Record.{firstAbove, isWide};
-ghost use Rattle.walk.specs.Soundness.{boundariesSound, isSound, summed};
-
-// The live masses, taken together: some word is over 2^43, or their sum.
-enum Masses {
-    TooLarge,
-    Total(u64),
-}
+ghost use Rattle.walk.specs.Soundness.{boundariesSound, isSound};
 
 // What refusal 11 asks of the boundaries and the spent masses, in its order. Differences are taken in 64 bits, where none overflows.
 fn boundaries_sound(w: Walked, n: u32, ones: u32, e: u64) -> bool
@@ -45,22 +40,34 @@ fn boundaries_sound(w: Walked, n: u32, ones: u32, e: u64) -> bool
     w.under <= e
 }
 
-// The live words in one pass, which ends at the first over 2^43. For this crate only: so many words cannot overflow.
-fn sum_up(words: &[u64]) -> Masses
+// Whether each word is at most 2^43. The pass runs at every draw, so it has no branch: x - x / 2^43 reaches 2^43 exactly when x is over it.
+// For this crate only: so many quotients cannot overflow.
+fn all_fit(words: &[u64]) -> bool
     requires { ⌜ length (now words) ≤ wide ⌝ }
-    ensures { λ r. ⌜ r ≡ summed (allUpTo massLimit (now (words .entry))) (sum (now (words .entry))) ⌝ }
+    ensures { λ r. ⌜ r ≡ allUpTo massLimit (now (words .entry)) ⌝ }
+{
+    let mut over: u64 = 0;
+    let mut i = 0;
+    while i < words.len() {
+        let x = words[i];
+        over += (x - x / 8796093022208) / 8796093022208;
+        i += 1;
+    }
+    over == 0
+}
+
+// The words' sum. For this crate only: so many words that fit cannot overflow.
+fn sum_up(words: &[u64]) -> u64
+    requires { ⌜ (length (now words) ≤ wide) × (allUpTo massLimit (now words) ≡ true) ⌝ }
+    ensures { λ r. ⌜ r ≡ sum (now (words .entry)) ⌝ }
 {
     let mut total: u64 = 0;
     let mut i = 0;
     while i < words.len() {
-        let x = words[i];
-        if x > 8796093022208 {
-            return Masses::TooLarge;
-        }
-        total += x;
+        total += words[i];
         i += 1;
     }
-    Masses::Total(total)
+    total
 }
 
 // Whether three masses make up M: what is missing is counted down, so that nothing overflows.
@@ -94,11 +101,11 @@ pub fn is_sound(part: &[u64], w: Walked, n: u32, ones: u32, e: u64) -> bool
         return false;
     }
     let m = live_words(w, part.len());
-    let masses = sum_up(&part[..m]);
-    match masses {
-        Masses::TooLarge => false,
-        Masses::Total(live) => is_whole(live, w.over, w.under),
+    if !all_fit(&part[..m]) {
+        return false;
     }
+    let live = sum_up(&part[..m]);
+    is_whole(live, w.over, w.under)
 }
 
 // Wide: upper - lower - 1 is 769 (01, "The walk of one threshold"). Of any boundaries: the difference is taken in 64 bits.

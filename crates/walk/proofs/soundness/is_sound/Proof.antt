@@ -1,5 +1,5 @@
--- The tests on the boundaries leave at most 769 live counts, so the pass over the live words may sum them up; the words passed are the
--- row's, also where fewer are lent.
+-- The tests on the boundaries leave at most 769 live counts, so the live words may be summed up; the words passed are the row's, also
+-- where fewer are lent.
 use mathlib.Core.Path.{_≡_, refl, sym, ap, _∙_}
 use mathlib.Core.Bool.{Bool, true, false}
 use mathlib.Core.List.{List}
@@ -12,9 +12,8 @@ use lib.Seq.{length-take-le, take-all}
 use Rattle.walk.specs.Numbers.{le?, choose, sum, allUpTo}
 use Rattle.walk.specs.Units.{M, wide, massLimit}
 use Rattle.walk.specs.Record.{firstAbove, rowOf}
-use Rattle.walk.specs.Soundness.{boundariesSound, isSound, summed}
+use Rattle.walk.specs.Soundness.{boundariesSound, isSound}
 use Rattle.walk.specs.declared.Walked.{Walked}
-use Rattle.walk.specs.declared.soundness.Masses.the-variants.{TooLarge, Total}
 use Rattle.walk.proofs.Tests.{Le?, le, gt, test}
 use Rattle.walk.proofs.Checks.{Between, boundaries-say}
 use Rattle.walk.proofs.soundness.is_sound.Statement.{statement}
@@ -37,27 +36,16 @@ first k l m = go (le? k (length l)) (test k (length l))
       same = ap (λ (i : ℕ). take i l) is ∙ take-all (length l) l (omega arith) ∙ sym (take-all k l (omega arith));
     }
 
--- what the answer of the pass says
-large : (b : Bool) (t : ℕ) → summed b t ≡ TooLarge → b ≡ false
-large true t e = cc
-large false t e = refl
-
-small : (b : Bool) (t u : ℕ) → summed b t ≡ Total u → (b ≡ true) × (t ≡ u)
-small true t u e = (refl, cc)
-small false t u e = (cc, cc)
-
+-- the words passed decide
 module _ (e n s : ℕ) (w : Walked) (words : List ℕ) (m : ℕ) (f : First (w .upper - firstAbove (w .lower)) words m)
     (passed : boundariesSound e n s w ≡ true) where
-  too-large : summed (allUpTo massLimit (take m words)) (sum (take m words)) ≡ TooLarge → false ≡ isSound e n s w words
+  too-large : allUpTo massLimit (take m words) ≡ false → false ≡ isSound e n s w words
   unfolding isSound rowOf
-  too-large p = rw (passed, ← (f .same), large (allUpTo massLimit (take m words)) (sum (take m words)) p)
+  too-large p = rw (passed, ← (f .same), p)
 
-  answered : (live : ℕ) → summed (allUpTo massLimit (take m words)) (sum (take m words)) ≡ Total live
-      → (r : Bool) → r ≡ le? M (live + w .over + w .under) → r ≡ isSound e n s w words
+  answered : allUpTo massLimit (take m words) ≡ true → (r : Bool) → r ≡ le? M (sum (take m words) + w .over + w .under) → r ≡ isSound e n s w words
   unfolding isSound rowOf
-  answered live p r q =
-      let h = small (allUpTo massLimit (take m words)) (sum (take m words)) live p in
-      rw (passed, ← (f .same), h .0, h .1) q
+  answered p r q = rw (passed, ← (f .same), p) q
 
 boundaries-sound-requires : tie.Need-boundaries-sound-requires
 boundaries-sound-requires c κs = search needs
@@ -83,34 +71,41 @@ words-passed : (c : tie.After-live-words)
     → let a = start (c .before) .args in First (a .w .upper - firstAbove (a .w .lower)) (a .part .now) (c .live-words .result)
 words-passed c = first _ _ _ (c .live-words .ensures)
 
+few-enough : (c : tie.After-live-words) → length (take (c .live-words .result) (start (c .before) .args .part .now)) ≤ wide
+unfolding wide
+few-enough c =
+    let w = words-passed c in
+    omega (arith, length-take-le (c .live-words .result) (start (c .before) .args .part .now) (w .there), w .few, between (c .before) .fits)
+
+slice-aggregate-all-fit : tie.Need-slice-aggregate-all-fit
+slice-aggregate-all-fit c = sym (length-take-le _ _ (words-passed (c .before) .there))
+
+all-fit-requires : tie.Need-all-fit-requires
+all-fit-requires c κs = few-enough (c .before)
+
+returns-2 : tie.Need-returns-2
+returns-2 c =
+    let l = c .before .before .before in
+    too-large _ _ _ _ _ _ (words-passed l) (passed (l .before)) (sym (c .before .all-fit .ensures) ∙ not-true _ (c .if2 .taken))
+
+fit : (c : tie.Else2)
+    → let l = c .before .before .before in allUpTo massLimit (take (l .live-words .result) (start (l .before) .args .part .now)) ≡ true
+fit c = sym (c .before .all-fit .ensures) ∙ not-false _ (c .if2 .left)
+
 slice-aggregate-sum-up : tie.Need-slice-aggregate-sum-up
-slice-aggregate-sum-up c = sym (length-take-le _ _ (words-passed (c .before) .there))
+slice-aggregate-sum-up c = sym (length-take-le _ _ (words-passed (c .before .before .before .before) .there))
 
 sum-up-requires : tie.Need-sum-up-requires
-unfolding wide
-sum-up-requires c κs =
-    let l = c .before in
-    let w = words-passed l in
-    omega (arith, length-take-le (l .live-words .result) (start (l .before) .args .part .now) (w .there), w .few, between (l .before) .fits)
-
-enum-told : tie.Need-enum-told
-enum-told c = search needs
-
-enum-known-masses : tie.Need-enum-known-masses
-enum-known-masses c = search needs
+sum-up-requires c κs = (few-enough (c .before .before .before .before), fit (c .before))
 
 is-whole-requires : tie.Need-is-whole-requires
 is-whole-requires c κs = search needs
 
-returns-2 : tie.Need-returns-2
-returns-2 c =
-    let l = c .before .before .before .before in
-    too-large _ _ _ _ _ _ (words-passed l) (passed (l .before)) (sym (c .before .before .sum-up .ensures) ∙ c .enum-told .given .1)
-
 returns-3 : tie.Need-returns-3
 returns-3 c =
-    let l = c .before .before .before .before .before .before in
-    answered _ _ _ _ _ _ (words-passed l) (passed (l .before)) _ (sym (c .before .before .before .before .sum-up .ensures) ∙ c .before .before .masses .given .1) _ (c .is-whole .ensures)
+    let e = c .before .before .before in
+    let l = e .before .before .before in
+    answered _ _ _ _ _ _ (words-passed l) (passed (l .before)) (fit e) _ (rw (c .before .sum-up .ensures) at (c .is-whole .ensures))
 
 pub is-sound-spec : {M : Type 1} → statement M
 is-sound-spec =
@@ -119,10 +114,10 @@ is-sound-spec =
     boundaries-sound-requires
     returns
     live-words-requires
+    slice-aggregate-all-fit
+    all-fit-requires
+    returns-2
     slice-aggregate-sum-up
     sum-up-requires
-    enum-told
-    enum-known-masses
     is-whole-requires
-    returns-2
     returns-3)

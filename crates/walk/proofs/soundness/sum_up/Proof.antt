@@ -1,42 +1,36 @@
--- The words passed are small, so 769 of them sum to less than 2^53, and what is left decides whether all are.
-use mathlib.Core.Path.{_≡_, refl, _∙_}
+-- The words passed are small, so 769 of them sum to less than 2^53.
+use mathlib.Core.Path.{_≡_, refl}
 use Prim.Native.Nat.{_*_, _-_, _≤_}
 use native.Mathlib.Numerals.{add-one}
 use native.Mathlib.Omega.{arith}
-use lib.ListN.{length, take, drop, drop-of-length-le}
+use lib.ListN.{length, take}
 use lib.Seq.{take-all}
-use Rattle.walk.specs.Numbers.{sum, allUpTo}
+use Rattle.walk.specs.Numbers.{sum}
 use Rattle.walk.specs.Units.{massLimit, wide}
-use Rattle.walk.proofs.Lists.{sum-take-suc}
-use Rattle.walk.proofs.Loops.{all-fits, all-stop}
+use Rattle.walk.proofs.Lists.{sum-take-suc, all-getD}
 use Rattle.walk.proofs.soundness.sum_up.Statement.{statement}
 use Rattle.walk.proofs.soundness.sum_up.Tie as tie
 
 abbrev Inv-loop : tie.InvT-loop
 Inv-loop words total₀ i₀ total i =
-    (i ≤ length words) × (total ≡ sum (take i words)) × (total ≤ massLimit * i) × (allUpTo massLimit words ≡ allUpTo massLimit (drop i words))
+    (i ≤ length words) × (total ≡ sum (take i words)) × (total ≤ massLimit * i)
 
 abbrev μ-loop : tie.MeasureT-loop
 μ-loop words total₀ i₀ total i = length words - i
 
 loop-holds : tie.Need-loop-holds Inv-loop μ-loop
-loop-holds c = (omega arith, refl, omega arith, refl)
+loop-holds c = (omega arith, refl, omega arith)
 
-mul-x : tie.Need-mul-x Inv-loop μ-loop
-mul-x c = omega arith
+mul-total : tie.Need-mul-total Inv-loop μ-loop
+mul-total c = omega arith
 
-shared-slice-read-x : tie.Need-shared-slice-read-x Inv-loop μ-loop
-shared-slice-read-x c = omega arith
-
-returns : tie.Need-returns Inv-loop μ-loop
-unfolding massLimit
-returns c =
-    let l = c .before .before .before .loop in
-    rw (l .inv .3, all-stop massLimit (c .before .before .before .before .args .words .now) (l .i) (omega arith) (c .if1 .taken))
+shared-slice-read-total : tie.Need-shared-slice-read-total Inv-loop μ-loop
+shared-slice-read-total c = omega arith
 
 add-total : tie.Need-add-total Inv-loop μ-loop
 unfolding massLimit wide
-add-total c = omega arith
+add-total c =
+    let s = c .before .before .before in omega (arith, all-getD massLimit (s .args .words .now) (s .pre .1) (c .before .before .loop .i))
 
 add-i : tie.Need-add-i Inv-loop μ-loop
 add-i c = omega arith
@@ -47,20 +41,18 @@ loop-less c = omega arith
 loop-again : tie.Need-loop-again Inv-loop μ-loop
 unfolding massLimit
 loop-again c =
-    let l = c .before .before .before .loop in
-    let words = c .before .before .before .before .args .words .now in (
+    let s = c .before .before .before in
+    let l = c .before .before .loop in (
       omega arith,
-      rw add-one (omega (arith, sum-take-suc words (l .i))),
-      omega arith,
-      l .inv .3 ∙ all-fits massLimit words (l .i) (omega arith) (c .if1 .left),
+      rw add-one (omega (arith, sum-take-suc (s .args .words .now) (l .i))),
+      omega (arith, all-getD massLimit (s .args .words .now) (s .pre .1) (l .i)),
     )
 
-returns-2 : tie.Need-returns-2 Inv-loop μ-loop
-returns-2 c =
-    let l = c .before .loop in
+returns : tie.Need-returns Inv-loop μ-loop
+returns c =
     let words = c .before .before .args .words .now in
-    let h : length words ≤ l .i = omega arith in
-    rw (l .inv .3, drop-of-length-le words h, l .inv .1, take-all)
+    let h : length words ≤ c .before .loop .i = omega arith in
+    rw (c .before .loop .inv .1, take-all)
 
 pub sum-up-spec : {M : Type 1} → statement M
 sum-up-spec =
@@ -69,11 +61,10 @@ sum-up-spec =
     Inv-loop
     μ-loop
     loop-holds
-    mul-x
-    shared-slice-read-x
-    returns
+    mul-total
+    shared-slice-read-total
     add-total
     add-i
     loop-less
     loop-again
-    returns-2)
+    returns)
