@@ -2,7 +2,7 @@
 -- nothing.
 use mathlib.Core.Path.{_≡_, refl, sym, ap, _∙_}
 use mathlib.Core.Bool.{true, false, _&&_}
-use mathlib.Core.List.{List, _∷_}
+use mathlib.Core.List.{List, [], _∷_}
 use Prim.Native.Nat.{ℕ, zero, suc, _+_, _*_, _≤_, _<_}
 use native.Mathlib.Numerals.{add-one}
 use native.Mathlib.Omega.{arith}
@@ -23,7 +23,7 @@ use Rattle.bucket_test.specs.Plan.{thresholdAt, spendingOf, planRefusal,
 use Rattle.bucket_test.specs.Words.{partAt, wordsFit}
 use Rattle.bucket_test.specs.Turn.{recordAt, turnRecord, turnPart, MayTurn, recordSound}
 use Rattle.bucket_test.specs.Answers.{lowOf, highOf, anyWide, firstBucket, answerBy, answerOf, isEnding, goesOn}
-use Rattle.bucket_test.specs.Draw.{Outcome, drawnOf, startState, startWords, noState, beginRefusal, begunBy, begun, stateSound, drawRefusal, nextState, nextWords, drawnBy, drawn, report, drawnAll}
+use Rattle.bucket_test.specs.Draw.{Outcome, drawnOf, outcomeOf, startState, startWords, noState, beginRefusal, begunBy, begun, stateSound, drawRefusal, nextState, nextWords, drawnBy, drawn, report, drawnOn}
 use Rattle.bucket_test.specs.declared.Threshold.{Threshold}
 use Rattle.bucket_test.specs.declared.State.{State}
 use Rattle.bucket_test.specs.declared.Plan.{Plan}
@@ -190,22 +190,22 @@ module _ (p : Plan) (s : State) where
 
 -- ---- a run of draws ds from place i on, which is what the whole run is
 
-module _ (p : Plan) (s : State) (ws ds : List ℕ) (i : ℕ) (whole : Outcome) (is : drawnAll p s ws (drop i ds) ≡ whole) where
-  pub run-end : length ds ≤ i → (a : Report) → a ≡ report p s → (record { answer = a .answer; state = s } ≡ drawnOf whole) × (ws ≡ whole .words)
-  unfolding drawnAll
-  run-end h a e = hands (sym is ∙ ap (drawnAll p s ws) (drop-of-length-le ds {i = i} h)) (rw e) refl
+pub run-stops : (p : Plan) (o : Outcome) (ds : List ℕ) → goesOn (o .answer) ≡ false → drawnOn p o ds ≡ o
+unfolding drawnOn
+run-stops p o [] e = refl
+run-stops p o (d ∷ ds) e = rw e
 
-  module _ (l : i < length ds) (r : Drawn) (ws′ : List ℕ) (r-is : r ≡ drawnOf (drawn p s ws (getD ds i 0))) (ws-is : ws′ ≡ drawn p s ws (getD ds i 0) .words) where
-    here : whole ≡ drawnAll p s ws (getD ds i 0 ∷ drop (suc i) ds)
-    here = sym is ∙ ap (drawnAll p s ws) (drop-cons ds i 0 l)
+module _ (p : Plan) (d : Drawn) (ws ds : List ℕ) (i : ℕ) (whole : Outcome) (is : drawnOn p (outcomeOf d ws) (drop i ds) ≡ whole) where
+  pub run-end : length ds ≤ i → (d ≡ drawnOf whole) × (ws ≡ whole .words)
+  unfolding drawnOn
+  run-end h = hands (sym is ∙ ap (drawnOn p (outcomeOf d ws)) (drop-of-length-le ds {i = i} h)) refl refl
 
-    answer-is : goesOn (r .answer) ≡ goesOn (drawn p s ws (getD ds i 0) .answer)
-    answer-is = ap (λ (x : Drawn). goesOn (x .answer)) r-is
+  pub run-ended : goesOn (d .answer) ≡ false → (d ≡ drawnOf whole) × (ws ≡ whole .words)
+  run-ended e = hands (sym is ∙ run-stops p (outcomeOf d ws) (drop i ds) e) refl refl
 
-    pub run-on : goesOn (r .answer) ≡ true → drawnAll p (r .state) ws′ (drop (i + 1) ds) ≡ whole
-    unfolding drawnAll
-    run-on h = rw (here, ← answer-is, h, r-is, ws-is, add-one i)
-
-    pub run-stops : goesOn (r .answer) ≡ false → (r ≡ drawnOf whole) × (ws′ ≡ whole .words)
-    unfolding drawnAll
-    run-stops h = hands (here ∙ rw (← answer-is, h)) r-is ws-is
+  pub run-on : i < length ds → goesOn (d .answer) ≡ true → (r : Drawn) (ws′ : List ℕ) → r ≡ drawnOf (drawn p (d .state) ws (getD ds i 0))
+      → ws′ ≡ drawn p (d .state) ws (getD ds i 0) .words → drawnOn p (outcomeOf r ws′) (drop (i + 1) ds) ≡ whole
+  unfolding drawnOn
+  run-on l h r ws′ r-is ws-is =
+      let here : whole ≡ drawnOn p (outcomeOf d ws) (getD ds i 0 ∷ drop (suc i) ds) = sym is ∙ ap (drawnOn p (outcomeOf d ws)) (drop-cons ds i 0 l) in
+      rw (here, h, r-is, ws-is, add-one i)

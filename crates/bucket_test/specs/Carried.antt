@@ -3,14 +3,12 @@
 use mathlib.Core.Path.{_≡_}
 use mathlib.Core.Bool.{Bool, true, false, _||_}
 use mathlib.Core.List.{List, [], _∷_}
-use Prim.Native.Nat.{ℕ, zero, suc, _*_, _≤_, _<_}
+use Prim.Native.Nat.{ℕ, zero, suc, _≤_, _<_}
 use lib.ListN.{length, take}
 use Rattle.walk.specs.Numbers.{le?}
-use Rattle.walk.specs.Units.{wide}
 use Rattle.walk.specs.Strings.{Draws}
-use Rattle.bucket_test.specs.Plan.{Accepted}
-use Rattle.bucket_test.specs.Answers.{isEnding, goesOn, refusalOf, answerOf}
-use Rattle.bucket_test.specs.Draw.{Outcome, begun, drawn, drawnAll}
+use Rattle.bucket_test.specs.Answers.{isEnding, goesOn, refusalOf}
+use Rattle.bucket_test.specs.Draw.{Outcome, begun, drawn, drawnOn}
 use Rattle.bucket_test.specs.declared.Plan.{Plan}
 
 -- what the last call handed back, after the draws ds from a beginning on these words
@@ -37,21 +35,15 @@ unfoldable pub after : List ℕ → List ℕ → List ℕ
 after ds [] = ds
 after ds (e ∷ es) = after (e ∷ ds) es
 
--- The outcome o of a run of draws es, put to the test carried over ds: so many of them were handed to it, each but the last answered
--- `open`, all of them unless the last answer was not, and o is what the test then handed back.
+-- The outcome o of a run of draws es, put to the test carried over ds: so many of them were handed to it, each after an `open` answer, all
+-- of them unless an answer was not, and o is what the test then handed back.
 pub record RunsTo (p : Plan) (words ds es : List ℕ) (o : Outcome) : Type 0 where
   pub handed : ℕ
-  pub some : 0 < length es → 0 < handed
   pub few : handed ≤ length es
-  pub open-before : (k : ℕ) → 0 < k → k < handed → goesOn (carried p words (after ds (take k es)) .answer) ≡ true
+  pub open-before : (k : ℕ) → k < handed → goesOn (carried p words (after ds (take k es)) .answer) ≡ true
   pub stops : handed < length es → goesOn (o .answer) ≡ false
-  pub state-is : o .state ≡ carried p words (after ds (take handed es)) .state
-  pub words-is : o .words ≡ carried p words (after ds (take handed es)) .words
-  pub answer-is : 0 < handed → o .answer ≡ carried p words (after ds (take handed es)) .answer
-  pub answer-none : handed ≡ 0 → o .answer ≡ answerOf p (o .state)
+  pub outcome : o ≡ carried p words (after ds (take handed es))
 
--- of every accepted plan, every lent words of the right number, and every two lists
+-- of every plan, all lent words, and every two lists
 abbrev pub RunTheorem : Type 0
-RunTheorem =
-    (p : Plan) → Accepted p → (words : List ℕ) → length words ≡ wide * p .count → (ds es : List ℕ)
-    → RunsTo p words ds es (drawnAll p (carried p words ds .state) (carried p words ds .words) es)
+RunTheorem = (p : Plan) (words ds es : List ℕ) → RunsTo p words ds es (drawnOn p (carried p words ds) es)

@@ -27,6 +27,9 @@ pub record Outcome : Type 0 where
 abbrev pub drawnOf : Outcome → Drawn
 drawnOf o = record { answer = o .answer; state = o .state }
 
+abbrev pub outcomeOf : Drawn → List ℕ → Outcome
+outcomeOf d words = record { answer = d .answer; state = d .state; words = words }
+
 -- ---- a beginning: plan, 8
 
 -- ten open records with step 0's boundaries, and each part the words of step 0
@@ -98,14 +101,12 @@ reportBy (suc r) p s = record { answer = Refused (suc r); low = 0; high = 0 }
 unfoldable pub report : Plan → State → Report
 report p s = reportBy (planRefusal p) p s
 
--- ---- a run of draws: as many as are answered `open`, and the first that is not
+-- ---- a run of draws from an outcome on: each while the answer is `open`
 
-abbrev pub unlessOpen : Bool → Outcome → Outcome → Outcome
-unlessOpen true o rest = rest
-unlessOpen false o rest = o
+abbrev pub whileOpen : Bool → Outcome → Outcome → Outcome
+whileOpen true o next = next
+whileOpen false o next = o
 
-unfoldable pub drawnAll : Plan → State → List ℕ → List ℕ → Outcome
-drawnAll p s words [] = record { answer = report p s .answer; state = s; words = words }
-drawnAll p s words (d ∷ ds) =
-    let o = drawn p s words d in
-    unlessOpen (goesOn (o .answer)) o (drawnAll p (o .state) (o .words) ds)
+unfoldable pub drawnOn : Plan → Outcome → List ℕ → Outcome
+drawnOn p o [] = o
+drawnOn p o (d ∷ ds) = whileOpen (goesOn (o .answer)) o (drawnOn p (drawn p (o .state) (o .words) d) ds)

@@ -20,7 +20,7 @@ ghost use lib.ListN.{length};
 ghost use Rattle.walk.specs.Units.{wide};
 ghost use Rattle.bucket_test.specs.Plan.{planRefusal};
 ghost use Rattle.bucket_test.specs.Answers.{answerOf, isEnding, goesOn};
-ghost use Rattle.bucket_test.specs.Draw.{drawnOf, begun, stateSound, nextState, nextWords, drawn, report, drawnAll};
+ghost use Rattle.bucket_test.specs.Draw.{drawnOf, outcomeOf, begun, stateSound, nextState, nextWords, drawn, report, drawnOn};
 
 // A refusal by its number, with a state.
 fn refused(number: u32, s: State) -> Drawn
@@ -158,30 +158,23 @@ pub fn is_open(a: Answer) -> bool
     }
 }
 
-// A run of draws: as many as are answered `open`, and the first that is not. Where all are, or there is none, the answer is that of the
-// state as it stands.
-pub fn draw_all(p: Plan, s: State, words: &mut [u64], draws: &[u8]) -> Drawn
+// A run of draws after a call's outcome: each while the answer is `open`. Any plan, outcome, words and draws may be handed in.
+pub fn draw_all(p: Plan, d: Drawn, words: &mut [u64], draws: &[u8]) -> Drawn
     ensures { λ r. ⌜
-        (r ≡ drawnOf (drawnAll p s (now (words .entry)) (now (draws .entry))))
-        × (now (words .exit) ≡ drawnAll p s (now (words .entry)) (now (draws .entry)) .words)
+        (r ≡ drawnOf (drawnOn p (outcomeOf d (now (words .entry))) (now (draws .entry))))
+        × (now (words .exit) ≡ drawnOn p (outcomeOf d (now (words .entry))) (now (draws .entry)) .words)
         ⌝ }
 {
-    let mut state = s;
+    let mut drawn = d;
     let mut i = 0;
     while i < draws.len() {
-        let drawn = draw(p, state, words, draws[i]);
         let answer = drawn.answer;
         if !is_open(answer) {
             return drawn;
         }
-        let next = drawn.state;
-        state = next;
+        let state = drawn.state;
+        drawn = draw(p, state, words, draws[i]);
         i += 1;
     }
-    let last = report_on(p, state);
-    let answer = last.answer;
-    Drawn {
-        answer: answer,
-        state: state,
-    }
+    drawn
 }

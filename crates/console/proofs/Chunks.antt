@@ -1,15 +1,17 @@
--- How the input is cut into reads does not matter: a chunk that leaves the test open, and then the rest, is the whole. Assumes nothing.
-use mathlib.Core.Path.{_≡_, refl, sym, _∙_}
+-- How the input is cut into reads does not matter: one text and then another is the two together. Assumes nothing.
+use mathlib.Core.Path.{_≡_, refl, _∙_}
 use mathlib.Core.Bool.{Bool, true, false, cond}
 use mathlib.Core.List.{List, [], _∷_, _++_}
 use Prim.Native.Nat.{ℕ}
-use Rattle.walk.proofs.Tests.{clash}
+use lib.ListN.{length, take, drop}
+use lib.Seq.{take-append-seam}
 use Rattle.bucket_test.specs.Tests.{eq?}
-use Rattle.bucket_test.specs.Answers.{goesOn}
-use Rattle.bucket_test.specs.Draw.{Outcome, drawn, drawnAll, unlessOpen}
-use Rattle.bucket_test.specs.declared.State.{State}
+use Rattle.bucket_test.specs.Draw.{Outcome, drawnOf, outcomeOf, drawnOn}
+use Rattle.bucket_test.proofs.Runs.{run-append}
 use Rattle.bucket_test.specs.declared.Plan.{Plan}
+use Rattle.bucket_test.specs.declared.Drawn.{Drawn}
 use Rattle.console.specs.Input.{drawOf, drawsOf}
+use Rattle.console.specs.Program.{Taken}
 
 draws-append : (xs ys : List ℕ) → drawsOf (xs ++ ys) ≡ drawsOf xs ++ drawsOf ys
 unfolding drawsOf
@@ -21,20 +23,21 @@ draws-append (c ∷ xs) ys = go (eq? c 10) (draws-append xs ys)
     go true e = e
     go false e = rw e
 
-module _ (p : Plan) where
-  past : (b : Bool) (o x y : Outcome) (ys : List ℕ) → goesOn (o .answer) ≡ b → (goesOn (x .answer) ≡ true → y ≡ drawnAll p (x .state) (x .words) ys)
-      → goesOn (unlessOpen b o x .answer) ≡ true → unlessOpen b o y ≡ drawnAll p (unlessOpen b o x .state) (unlessOpen b o x .words) ys
-  past true o x y ys e f h = f h
-  past false o x y ys e f h = clash (sym h ∙ e)
+-- a run over the draws that stand in the place of a chunk's characters
+pub fed : (p : Plan) (o : Outcome) (chunk₀ chunk : List ℕ) (m : ℕ) (d : Drawn) (words : List ℕ) → m ≡ length (drawsOf chunk₀)
+    → chunk ≡ drawsOf chunk₀ ++ drop m chunk₀ → d ≡ drawnOf (drawnOn p o (take m chunk)) → words ≡ drawnOn p o (take m chunk) .words
+    → outcomeOf d words ≡ drawnOn p o (drawsOf chunk₀)
+fed p o chunk₀ chunk m d words m-is chunk-is d-is words-is =
+    let draws : take m chunk ≡ drawsOf chunk₀ = rw (chunk-is, m-is) (take-append-seam (drawsOf chunk₀) (drop (length (drawsOf chunk₀)) chunk₀)) in
+    rw (d-is, words-is, draws)
 
-  runs-append : (s : State) (words xs ys : List ℕ) → goesOn (drawnAll p s words xs .answer) ≡ true
-      → drawnAll p s words (xs ++ ys) ≡ drawnAll p (drawnAll p s words xs .state) (drawnAll p s words xs .words) ys
-  unfolding drawnAll
-  runs-append s words [] ys h = refl
-  runs-append s words (d ∷ xs) ys h =
-      let o = drawn p s words d in
-      past (goesOn (o .answer)) o (drawnAll p (o .state) (o .words) xs) (drawnAll p (o .state) (o .words) (xs ++ ys)) ys refl (runs-append (o .state) (o .words) xs ys) h
+pub taken-none : (p : Plan) (d : Drawn) (words : List ℕ) → Taken p (outcomeOf d words) d words
+unfolding drawsOf drawnOn
+taken-none p d words = record { text = []; outcome = refl }
 
-  pub chunks : (s : State) (words cs ds : List ℕ) → goesOn (drawnAll p s words (drawsOf cs) .answer) ≡ true
-      → drawnAll p s words (drawsOf (cs ++ ds)) ≡ drawnAll p (drawnAll p s words (drawsOf cs) .state) (drawnAll p s words (drawsOf cs) .words) (drawsOf ds)
-  chunks s words cs ds h = rw (draws-append cs ds) (runs-append s words (drawsOf cs) (drawsOf ds) h)
+pub taken-more : (p : Plan) (o : Outcome) (d d′ : Drawn) (words words′ : List ℕ) → Taken p o d words → Taken p (outcomeOf d words) d′ words′
+    → Taken p o d′ words′
+taken-more p o d d′ words words′ t u = record {
+  text = t .text ++ u .text;
+  outcome = u .outcome ∙ rw (t .outcome, draws-append (t .text) (u .text)) (run-append p o (drawsOf (t .text)) (drawsOf (u .text)));
+}

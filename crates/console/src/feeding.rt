@@ -3,22 +3,20 @@
 use crate::input::to_draws;
 use bucket_test::Drawn;
 use bucket_test::Plan;
-use bucket_test::State;
 use bucket_test::drawing::draw_all;
 ghost use mathlib.Core.Path.{_≡_};
-ghost use Prim.Native.Nat.{_≤_};
-ghost use lib.ListN.{length, take};
-ghost use Rattle.bucket_test.specs.Draw.{drawnOf, drawnAll};
+ghost use mathlib.Core.List.{_++_};
+ghost use lib.ListN.{length, drop};
+ghost use Rattle.bucket_test.specs.Draw.{outcomeOf, drawnOn};
 ghost use Rattle.console.specs.Input.{drawsOf};
 
-// The draws among the first n characters of the chunk: as many as are answered `open`, and the first that is not. The chunk is used up.
-pub fn feed(p: Plan, s: State, words: &mut [u64], chunk: &mut [u8], n: usize) -> Drawn
-    requires { ⌜ n ≤ length (now chunk) ⌝ }
+// The characters of a chunk, fed to the test after a call's outcome: each draw while the answer is `open`. Draws stand in their place then.
+pub fn feed(p: Plan, d: Drawn, words: &mut [u64], chunk: &mut [u8]) -> Drawn
     ensures { λ r. ⌜
-        (r ≡ drawnOf (drawnAll p s (now (words .entry)) (drawsOf (take n (now (chunk .entry))))))
-        × (now (words .exit) ≡ drawnAll p s (now (words .entry)) (drawsOf (take n (now (chunk .entry)))) .words)
+        (outcomeOf r (now (words .exit)) ≡ drawnOn p (outcomeOf d (now (words .entry))) (drawsOf (now (chunk .entry))))
+        × (now (chunk .exit) ≡ drawsOf (now (chunk .entry)) ++ drop (length (drawsOf (now (chunk .entry)))) (now (chunk .entry)))
         ⌝ }
 {
-    let m = to_draws(chunk, n);
-    draw_all(p, s, words, &chunk[..m])
+    let m = to_draws(chunk);
+    draw_all(p, d, words, &chunk[..m])
 }

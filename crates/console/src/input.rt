@@ -1,7 +1,8 @@
 // The characters of standard input as draws (01, "The program").
 ghost use mathlib.Core.Path.{_≡_};
-ghost use Prim.Native.Nat.{_≤_};
-ghost use lib.ListN.{length, take};
+ghost use mathlib.Core.List.{_++_};
+ghost use lib.ListN.{length, drop};
+ghost use Rattle.io.specs.Counts.{Counts};
 ghost use Rattle.console.specs.Input.{drawOf, drawsOf};
 
 // `0` and `1` are draws; any other character is no draw.
@@ -17,14 +18,17 @@ fn draw_of(c: u8) -> u8
     2
 }
 
-// Turns the first n characters into draws where they stand, newlines skipped, and answers how many there are.
-pub fn to_draws(chunk: &mut [u8], n: usize) -> usize
-    requires { ⌜ n ≤ length (now chunk) ⌝ }
-    ensures { λ r. ⌜ (r ≤ n) × (take r (now (chunk .exit)) ≡ drawsOf (take n (now (chunk .entry)))) ⌝ }
+// Turns characters into draws where they stand, newlines skipped, and answers how many there are; what stands behind the draws is kept.
+pub fn to_draws(chunk: &mut [u8]) -> usize
+    ensures { λ r. ⌜ Counts r (now (chunk .exit)) ⌝ }
+    ensures { λ r. ⌜
+        (r ≡ length (drawsOf (now (chunk .entry))))
+        × (now (chunk .exit) ≡ drawsOf (now (chunk .entry)) ++ drop r (now (chunk .entry)))
+        ⌝ }
 {
     let mut at = 0;
     let mut i = 0;
-    while i < n {
+    while i < chunk.len() {
         let c = chunk[i];
         if c != 10 {
             chunk[at] = draw_of(c);

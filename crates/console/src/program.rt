@@ -15,8 +15,9 @@ ghost use Prim.Native.Nat.{_≤_};
 ghost use lib.ListN.{take};
 ghost use Rattle.io.specs.Counts.{Counts};
 ghost use Rattle.bucket_test.specs.Answers.{valuesOf};
-ghost use Rattle.bucket_test.specs.Draw.{report};
+ghost use Rattle.bucket_test.specs.Draw.{outcomeOf, report};
 ghost use Rattle.console.specs.Line.{lineOf};
+ghost use Rattle.console.specs.Program.{Taken};
 
 // Where a test stands, and whether it takes more.
 struct Turn {
@@ -24,27 +25,24 @@ struct Turn {
     drawn: Drawn,
 }
 
-// One read, and the draws in it; none at the end of input.
-fn take_some(p: Plan, d: Drawn, input: i32, words: &mut [u64]) -> Turn {
+// One read, and the characters that it gave; none at the end of input.
+fn take_some(p: Plan, d: Drawn, input: i32, words: &mut [u64]) -> Turn
+    ensures { λ r. ⌜ Taken p (outcomeOf d (now (words .entry))) (r .drawn) (now (words .exit)) ⌝ }
+{
     let mut chunk = [0u8; 4096];
     let got = libc::read(input, &mut chunk);
-    if got <= 0 {
-        return Turn {
-            more: false,
-            drawn: d,
-        };
-    }
     let n = io::count(got, &chunk);
-    let s = d.state;
-    let drawn = feed(p, s, words, &mut chunk, n);
+    let drawn = feed(p, d, words, &mut chunk[0..n]);
     let answer = drawn.answer;
-    let more = is_open(answer);
+    let more = n > 0 && is_open(answer);
     Turn { more, drawn }
 }
 
 // Reads up to an answer that is not `open`, or the end of input. A proved loop has to end: it counts its turns down, from a number that no
 // run uses up.
-fn take_all(p: Plan, d: Drawn, input: i32, words: &mut [u64]) -> Drawn {
+fn take_all(p: Plan, d: Drawn, input: i32, words: &mut [u64]) -> Drawn
+    ensures { λ r. ⌜ Taken p (outcomeOf d (now (words .entry))) r (now (words .exit)) ⌝ }
+{
     let first = d.answer;
     let mut drawn = d;
     let mut more = is_open(first);

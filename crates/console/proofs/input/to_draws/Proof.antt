@@ -1,26 +1,21 @@
 -- What is done, with what is still to do, is what was to be done.
-use mathlib.Core.Path.{_≡_, refl, _∙_}
 use mathlib.Core.Logic.{⊎-elim}
-use mathlib.Core.List.{_++_, append-nil}
-use Prim.Native.Nat.{_-_, _≤_}
-use native.Mathlib.Nat.{sub-zero}
+use Prim.Native.Nat.{_-_, _<_}
 use native.Mathlib.Omega.{arith}
 use borrow.Author.Needs.{needs}
-use lib.ListN.{length, take, drop, length-set}
-use Rattle.console.specs.Input.{drawsOf}
-use Rattle.console.proofs.Characters.{skip-more, draw-more}
+use lib.ListN.{length}
+use Rattle.console.proofs.Characters.{Turned, turned-none, turned-skip, turned-draw, turned-counts, turned-all}
 use Rattle.console.proofs.input.to_draws.Statement.{statement}
 use Rattle.console.proofs.input.to_draws.Tie as tie
 
 abbrev Inv-loop : tie.InvT-loop
-Inv-loop chunk₀ n at₀ i₀ chunk at i =
-    (at ≤ i) × (i ≤ n) × (length chunk ≡ length chunk₀) × (take at chunk ++ drawsOf (take (n - i) (drop i chunk)) ≡ drawsOf (take n chunk₀))
+Inv-loop chunk₀ at₀ i₀ chunk at i = Turned chunk₀ chunk at i
 
 abbrev μ-loop : tie.MeasureT-loop
-μ-loop chunk₀ n at₀ i₀ chunk at i = n - i
+μ-loop chunk₀ at₀ i₀ chunk at i = length chunk₀ - i
 
 loop-holds : tie.Need-loop-holds Inv-loop μ-loop
-loop-holds c = (search needs, search needs, refl, rw sub-zero)
+loop-holds c = turned-none _
 
 slice-read-c : tie.Need-slice-read-c Inv-loop μ-loop
 slice-read-c c = search needs
@@ -38,26 +33,24 @@ add-i : tie.Need-add-i Inv-loop μ-loop
 add-i c = search needs
 
 loop-less : tie.Need-loop-less Inv-loop μ-loop
-loop-less c = search needs
+loop-less c = let l = c .before .before .before .loop in omega (arith, l .inv .size)
 
 loop-again : tie.Need-loop-again Inv-loop μ-loop
 loop-again c =
     let l = c .before .before .before .loop in
-    let a = c .before .before .before .before .before .args in
+    let h : l .i < length (c .before .before .before .before .before .args .chunk .now) = omega (arith, l .inv .size, c .before .before .loop-test .taken) in
     ⊎-elim
-    (λ w. rw (w .2, w .3) (omega arith, omega arith, simp length-set (omega arith), draw-more (l .chunk) (a .n) (l .at) (l .i) (omega arith) (omega arith) (omega arith) (w .1 .result) (w .0 .taken) (w .1 .ensures) ∙ l .inv .3))
-    (λ w. rw (w .1, w .2) (omega arith, omega arith, l .inv .2, skip-more (l .chunk) (a .n) (l .at) (l .i) (omega arith) (omega arith) (omega arith) (w .0 .left) ∙ l .inv .3))
+    (λ w. rw (w .2, w .3) (turned-draw _ _ _ _ (l .inv) h _ (w .0 .taken) (w .1 .ensures)))
+    (λ w. rw (w .1, w .2) (turned-skip _ _ _ _ (l .inv) h (w .0 .left)))
     (c .if1 .came)
 
 same-length : tie.Need-same-length Inv-loop μ-loop
 same-length c = search needs
 
 returns : tie.Need-returns Inv-loop μ-loop
-unfolding drawsOf
 returns c =
-    let l = c .before .loop in
-    let z : c .before .before .before .args .n - l .i ≡ 0 = omega arith in
-    (search needs, rw (z, append-nil) at (l .inv .3))
+    let t = c .before .loop .inv in
+    (turned-counts _ _ _ _ t, turned-all _ _ _ _ t (omega (arith, t .size, c .loop-test .left)))
 
 pub to-draws-spec : {M : Type 1} → statement M
 to-draws-spec =

@@ -1,12 +1,16 @@
--- The words keep their number; the turns are counted down.
-use mathlib.Core.Path.{_≡_}
+-- Each read adds its text to the text so far; the turns are counted down.
+use mathlib.Core.Path.{_≡_, refl}
 use lib.ListN.{length}
 use borrow.Author.Needs.{needs}
+use Rattle.bucket_test.specs.Draw.{outcomeOf}
+use Rattle.console.specs.Program.{Taken}
+use Rattle.console.proofs.Chunks.{taken-none, taken-more}
 use Rattle.console.proofs.program.take_all.Statement.{statement}
 use Rattle.console.proofs.program.take_all.Tie as tie
 
 abbrev Inv-loop : tie.InvT-loop
-Inv-loop p input words₀ drawn₀ more₀ turns₀ words drawn more turns = length words ≡ length words₀
+Inv-loop p input words₀ drawn₀ more₀ turns₀ words drawn more turns =
+    (length words ≡ length words₀) × Taken p (outcomeOf drawn₀ words₀) drawn words
 
 abbrev μ-loop : tie.MeasureT-loop
 μ-loop p input words₀ drawn₀ more₀ turns₀ words drawn more turns = turns
@@ -15,7 +19,7 @@ is-open-requires : tie.Need-is-open-requires Inv-loop μ-loop
 is-open-requires c κs = search needs
 
 loop-holds : tie.Need-loop-holds Inv-loop μ-loop
-loop-holds c = search needs
+loop-holds c = (refl, taken-none _ _ _)
 
 take-some-requires : tie.Need-take-some-requires Inv-loop μ-loop
 take-some-requires c κs = search needs
@@ -27,19 +31,21 @@ loop-less : tie.Need-loop-less Inv-loop μ-loop
 loop-less c = search needs
 
 loop-again : tie.Need-loop-again Inv-loop μ-loop
-loop-again c = search needs
+loop-again c =
+    let t = c .before .before .before in
+    (search needs, taken-more _ _ _ _ _ _ (t .before .before .before .before .loop .inv .1) (t .take-some .ensures))
 
 same-length : tie.Need-same-length Inv-loop μ-loop
 same-length c = search needs
 
 returns : tie.Need-returns Inv-loop μ-loop
-returns c = search needs
+returns c = c .before .before .loop .inv .1
 
 same-length-2 : tie.Need-same-length-2 Inv-loop μ-loop
 same-length-2 c = search needs
 
 returns-2 : tie.Need-returns-2 Inv-loop μ-loop
-returns-2 c = search needs
+returns-2 c = c .before .loop .inv .1
 
 pub take-all-spec : {M : Type 1} → statement M
 take-all-spec =
