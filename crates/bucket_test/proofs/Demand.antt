@@ -9,9 +9,9 @@ use borrow.Author.Tests.{eq-eqb}
 use lib.ListN.{length}
 use Rattle.walk.specs.Numbers.{le?, lt?}
 use Rattle.walk.specs.Units.{wide}
-use Rattle.walk.specs.Strings.{Draws}
+use Rattle.walk.specs.Strings.{Draws, lastStep}
 use Rattle.walk.proofs.Tests.{test, Le?, le, gt, clash}
-use Rattle.walk.proofs.Chances.{chances, meeting-counts, allowed-always}
+use Rattle.walk.proofs.Chances.{meets-says, allowed-always, chances}
 use Rattle.walk.proofs.Seams.{mark-nil, narrow-start}
 use Rattle.bucket_test.specs.Tests.{eq?, unless, firstRefusal}
 use Rattle.bucket_test.specs.Plan.{thresholdAt, spendingOf, planRefusal, Accepted}
@@ -20,7 +20,7 @@ use Rattle.bucket_test.specs.Turn.{recordAt}
 use Rattle.bucket_test.specs.Answers.{lowOf, highOf, anyWide, firstBucket, answerOf, answerBy, firstThatFits, isEnding, goesOn, refusalOf}
 use Rattle.bucket_test.specs.Draw.{Outcome, beginRefusal, begun, drawRefusal, drawnBy, drawn}
 use Rattle.bucket_test.specs.Carried.{carried, hasEnded, takenBy, taken}
-use Rattle.bucket_test.specs.Demand3.{Marks, Stands, lastStep, AnswersDraw, Answered, Demand3, Demand3Theorem}
+use Rattle.bucket_test.specs.Demand3.{Marks, Stands, AnswersDraw, Answered, Demand3, Demand3Theorem}
 use Rattle.bucket_test.proofs.Rules.{threshold-ok, spends, accepted}
 use Rattle.bucket_test.proofs.Beginning.{start-open}
 use Rattle.bucket_test.proofs.Following.{marks-say, stands-at}
@@ -251,9 +251,9 @@ module _ (p : Plan) (ok : Accepted p) (good : planRefusal p ≡ 0) (words : List
       ones-is = rw (held ds .state-is);
       marks = marks-now;
       stands = stands-now;
-      counted = λ i l s none side. meeting-counts (thresholdAt p i) (threshold-ok p ok i l) (spendingOf p i) (spends p ok i l) s none side;
+      counted = λ i l s side. meets-says (thresholdAt p i) (threshold-ok p ok i l) (spendingOf p i) (spends p ok i l) s side;
+      allowed = λ i l n side. allowed-always (thresholdAt p i) (threshold-ok p ok i l) (spendingOf p i) (spends p ok i l) side n;
       chances = λ i l n none side. chances (thresholdAt p i) (threshold-ok p ok i l) (spendingOf p i) (spends p ok i l) side n none;
-      allowed = λ i l n side test picks. allowed-always (thresholdAt p i) (threshold-ok p ok i l) (spendingOf p i) (spends p ok i l) side n test picks;
     }
 
 -- demand 3, whole

@@ -6,11 +6,11 @@ use mathlib.Core.List.{List, [], _∷_}
 use Prim.Native.Nat.{ℕ, _+_, _*_, _^_, _≤_, _<_}
 use lib.ListN.{length, getD}
 use Rattle.walk.specs.Units.{M, million, wide}
-use Rattle.walk.specs.Walk.{walk, lower, firstAt, upperAt, NoWideBefore}
-use Rattle.walk.specs.Strings.{Draws, ones, chance, Side, settled, mark, isOn}
-use Rattle.walk.specs.Chance.{Meets, meeting, spent, Bounds}
+use Rattle.walk.specs.Walk.{walk, lower, NoWideBefore}
+use Rattle.walk.specs.Strings.{Draws, ones, Side, settled, lastStep}
+use Rattle.walk.specs.Chance.{Meets, meets?, meeting, spent, Bounds}
 use Rattle.walk.specs.declared.Mark.{Mark}
-use Rattle.walk.specs.declared.Mark.the-variants.{Open, Above, AtMost}
+use Rattle.walk.specs.declared.Mark.the-variants.{Open}
 use Rattle.bucket_test.specs.Plan.{thresholdAt, spendingOf, Accepted}
 use Rattle.bucket_test.specs.Words.{partAt}
 use Rattle.bucket_test.specs.Turn.{recordAt}
@@ -37,12 +37,6 @@ module _ (a : ℕ) (E : ℕ → ℕ) where
     pub under-is : r .walked .under ≡ walk a E t .under
     pub size : length part ≡ wide
     pub masses : (j : ℕ) → j < wide → getD part j 0 ≡ walk a E t .mass (walk a E t .first + j)
-
--- the last step walked, after n draws taken: an open threshold's is n, a settled one's the step where the draws first met a boundary
-abbrev pub lastStep : Mark → ℕ → ℕ
-lastStep Open n = n
-lastStep (Above t) n = t
-lastStep (AtMost t) n = t
 
 -- ---- the claim on the whole list and all strings
 
@@ -71,17 +65,16 @@ module _ (p : Plan) (words : List ℕ) where
     pub stands : (i : ℕ) → i < p .count
         → Stands (thresholdAt p i) (spendingOf p i) (lastStep (recordAt (carried p words ds .state) i .mark) (length (taken p words ds)))
         (recordAt (carried p words ds .state) i) (partAt i (carried p words ds .words))
-    -- the chances, from n = 0 on: up to the first wide step W sums the weights of exactly the strings that meet the side's boundary first at
-    -- some step, and is bounded by E(n) and, in both directions, by the spent mass ..
-    pub counted : (i : ℕ) → i < p .count → (s : Draws) → NoWideBefore (thresholdAt p i) (spendingOf p i) (length s) → (side : Side)
-        → (isOn side (mark (firstAt (thresholdAt p i) (spendingOf p i)) (upperAt (thresholdAt p i) (spendingOf p i)) s) ≡ true)
-        ↔ ((t : ℕ) × Meets (thresholdAt p i) (spendingOf p i) side t s)
+    -- the chances: W, which is `meeting`, sums the weights of exactly the strings that meet the side's boundary first at some step, not past
+    -- the first wide one ..
+    pub counted : (i : ℕ) → i < p .count → (s : Draws) (side : Side)
+        → (meets? (thresholdAt p i) (spendingOf p i) side s ≡ true) ↔ ((t : ℕ) × Meets (thresholdAt p i) (spendingOf p i) side t s)
+    -- .. E(n) bounds it from n = 0 on, wide or not ..
+    pub allowed : (i : ℕ) → i < p .count → (n : ℕ) (side : Side)
+        → meeting (thresholdAt p i) (spendingOf p i) side n * M ≤ spendingOf p i n * million ^ n
+    -- .. and the spent mass, in both directions, for every n from 0 on that has a step n: up to the first wide step
     pub chances : (i : ℕ) → i < p .count → (n : ℕ) → NoWideBefore (thresholdAt p i) (spendingOf p i) n → (side : Side)
-        → Bounds (spendingOf p i) n (meeting (thresholdAt p i) (spendingOf p i) side n) (spent side (walk (thresholdAt p i) (spendingOf p i) n)) (wide * n)
-    -- .. and past it too, E(n) bounds the weight of the strings that meet the side's boundary at a step not past it
-    pub allowed : (i : ℕ) → i < p .count → (n : ℕ) (side : Side) (test : Draws → Bool)
-        → ((s : Draws) → length s ≡ n → test s ≡ true → (t : ℕ) × Meets (thresholdAt p i) (spendingOf p i) side t s)
-        → chance (thresholdAt p i) million n test * M ≤ spendingOf p i n * million ^ n
+        → Bounds n (meeting (thresholdAt p i) (spendingOf p i) side n) (spent side (walk (thresholdAt p i) (spendingOf p i) n)) (wide * n)
 
 -- of every accepted plan, every lent words of the right number, and every list
 abbrev pub Demand3Theorem : Type 0

@@ -1,6 +1,8 @@
 -- The walk of one threshold a, as 01 has it: masses by count, boundaries by search. (01: bars; here boundaries.)
 use mathlib.Core.Path.{_≡_}
+use mathlib.Core.Bool.{Bool, true, not, _&&_}
 use Prim.Native.Nat.{ℕ, zero, suc, _+_, _≤_, _<_}
+use lib.Dec.{eqb}
 use lib.IntN.{ℤ, pos, negsuc}
 use Rattle.walk.specs.Numbers.{le?, lt?, between, only, sumTo, searchUp, searchDown}
 use Rattle.walk.specs.Units.{M, wide}
@@ -100,6 +102,7 @@ Wide w = w .upper ≡ w .first + wide
 unfoldable pub NoWideBefore : ℕ → (ℕ → ℕ) → ℕ → Type 0
 NoWideBefore a E n = (t : ℕ) → t < n → ¬ (Wide (walk a E t))
 
--- t is the first wide step
-abbrev pub FirstWide : ℕ → (ℕ → ℕ) → ℕ → Type 0
-FirstWide a E t = Wide (walk a E t) × NoWideBefore a E t
+-- the same as a test that computes (proofs/Chances, `narrow-says`)
+unfoldable pub noWideBefore? : ℕ → (ℕ → ℕ) → ℕ → Bool
+noWideBefore? a E zero = true
+noWideBefore? a E (suc n) = noWideBefore? a E n && not (eqb (walk a E n .upper) (walk a E n .first + wide))
