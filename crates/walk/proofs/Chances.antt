@@ -14,7 +14,6 @@ use Rattle.walk.specs.Mass.{reaching}
 use Rattle.walk.specs.Walk.{previous, newMass, massFrom, massBelow, start, absorbed, stepWalk, walk, firstAt, upperAt, Wide, NoWideBefore, noWideBefore?}
 use Rattle.walk.specs.Row.{total, rows, roundedBy}
 use Rattle.walk.specs.Strings.{Draws, weight, Side, Upper, Lower, MeetsFirst, verdict, mark, isOn, isOpen, lastStep, chance}
-use Rattle.walk.specs.Facts.{massOf}
 use Rattle.walk.specs.Chance.{Meets, meets?, meeting, spent, Bounds, ChanceTheorem, AllowedTheorem}
 use Rattle.walk.proofs.Tests.{and-true, not-true, only-scale, sum-cong, sum-le, sum-mul}
 use Rattle.walk.proofs.Rounding.{mass-ge}
@@ -126,7 +125,7 @@ module _ (a : ℕ) (threshold : a ≤ million) (E : ℕ → ℕ) (spends : IsSpe
 
   -- ---- all masses together exceed the whole by no more than was rounded
 
-  pub walk-total : (n : ℕ) → massOf n (walk a E n) ≡ total (rows a E n)
+  walk-total : (n : ℕ) → sumTo (suc n) (walk a E n .mass) + walk a E n .over + walk a E n .under ≡ total (rows a E n)
   walk-total n =
       let s = same a threshold E spends n in
       let m : sumTo (suc n) (walk a E n .mass) ≡ sum (rows a E n .masses) =

@@ -67,6 +67,10 @@ pub only-swap : (b : Bool) (x y : ℕ) → x * only b y ≡ only b x * y
 only-swap true x y = refl
 only-swap false x y = omega arith
 
+pub only-only : (b : Bool) (x : ℕ) → only b (only b x) ≡ only b x
+only-only true x = refl
+only-only false x = refl
+
 pub only-le : (b : Bool) (x : ℕ) → only b x ≤ x
 only-le true x = omega arith
 only-le false x = omega arith
