@@ -1,6 +1,6 @@
 -- A run of draws is the same test as the list: what `drawnAll` hands back is what the draws handed to the test give, one by one. Assumes
 -- nothing.
-use mathlib.Core.Path.{_≡_, refl, sym, ap, _∙_}
+use mathlib.Core.Path.{_≡_, refl, sym, _∙_}
 use mathlib.Core.Bool.{Bool, true, false}
 use mathlib.Core.List.{List, [], _∷_}
 use Prim.Native.Nat.{ℕ, zero, suc, _*_, _<_}
@@ -10,24 +10,29 @@ use lib.Seq.{take-nil}
 use Rattle.walk.specs.Units.{wide}
 use Rattle.walk.proofs.Tests.{clash}
 use Rattle.bucket_test.specs.Plan.{planRefusal, Accepted}
-use Rattle.bucket_test.specs.Answers.{answerOf, goesOn}
+use Rattle.bucket_test.specs.Answers.{answerOf, goesOn, refusalOf}
 use Rattle.bucket_test.specs.Draw.{Outcome, unlessOpen, report, drawnAll}
 use Rattle.bucket_test.specs.Carried.{carried, after, RunsTo, RunTheorem}
 use Rattle.bucket_test.specs.Demand3.{Answered}
 use Rattle.bucket_test.proofs.Rules.{accepted}
 use Rattle.bucket_test.proofs.Demand.{held}
 use Rattle.bucket_test.specs.declared.Answer.{Answer}
-use Rattle.bucket_test.specs.declared.Answer.the-variants.{Refused}
+use Rattle.bucket_test.specs.declared.Answer.the-variants.{Open, Decided, Crossed, Wide, Spent, Refused}
 use Rattle.bucket_test.specs.declared.Plan.{Plan}
 
-open-no-refusal : (a : Answer) → goesOn a ≡ true → (r : ℕ) → ¬ (a ≡ Refused r)
-open-no-refusal a e r q = clash (sym e ∙ ap goesOn q)
+open-accepts : (a : Answer) → goesOn a ≡ true → refusalOf a ≡ 0
+open-accepts Open e = refl
+open-accepts (Decided b) e = refl
+open-accepts Crossed e = refl
+open-accepts Wide e = refl
+open-accepts Spent e = refl
+open-accepts (Refused r) e = clash (sym e)
 
 module _ (p : Plan) (ok : Accepted p) (good : planRefusal p ≡ 0) (words : List ℕ) (size : length words ≡ wide * p .count) where
   -- an open answer is the answer rule's, for the state just reached
   open-rule : (d : ℕ) (ds : List ℕ) → goesOn (carried p words (d ∷ ds) .answer) ≡ true → carried p words (d ∷ ds) .answer ≡ answerOf p (carried p words (d ∷ ds) .state)
   unfolding Answered
-  open-rule d ds e = held p ok good words size (d ∷ ds) .answered .0 .by-rule (open-no-refusal (carried p words (d ∷ ds) .answer) e)
+  open-rule d ds e = held p ok good words size (d ∷ ds) .answered .0 .by-rule (open-accepts (carried p words (d ∷ ds) .answer) e)
 
   abbrev run : List ℕ → List ℕ → Outcome
   run ds es = drawnAll p (carried p words ds .state) (carried p words ds .words) es
