@@ -293,11 +293,8 @@ module _ (a : ℕ) (threshold : a ≤ million) (E : ℕ → ℕ) (spends : IsSpe
   unfolding upperAt
   upper-at n = same n .upper-same
 
-  pub order : (n : ℕ) → firstAt a E n < upperAt a E n
-  order n = omega (arith, first-at n, upper-at n, rows-sound a threshold E spends n .sound .live)
-
   pub in-order : (n : ℕ) → firstAt a E n ≤ upperAt a E n
-  in-order n = omega (arith, order n)
+  in-order n = omega (arith, first-at n, upper-at n)
 
   pub not-wide : (n : ℕ) → NoWideBefore a E n ↔ ((t : ℕ) → t < n → ¬ (length (rows a E t .masses) ≡ wide))
   unfolding NoWideBefore

@@ -1,6 +1,7 @@
 -- The facts of 01: of one step from any sound row, and of the walk at every step. Assumes nothing.
 use mathlib.Core.Path.{_≡_, ap, _∙_}
-use Prim.Native.Nat.{ℕ, suc, _+_, _-_, _≤_, _<_}
+use mathlib.Core.Logic.{_⊎_, inl, inr}
+use Prim.Native.Nat.{ℕ, zero, suc, _+_, _-_, _≤_, _<_}
 use native.Mathlib.Omega.{arith}
 use lib.Dec.{le→leb}
 use lib.IntN.{pos, _-ℤ_}
@@ -15,6 +16,7 @@ use Rattle.walk.specs.Strings.{Upper, Lower}
 use Rattle.walk.specs.Facts.{asWalk, StepTheorem, massOf, WalkTheorem}
 use Rattle.walk.proofs.Tests.{only-le}
 use Rattle.walk.proofs.Lists.{all-getD}
+use Rattle.walk.proofs.Rounding.{mass-none}
 use Rattle.walk.proofs.Boundaries.{below-rises, apart-below}
 use Rattle.walk.proofs.RowSteps.{allowed-next, next-moves, next-sound, rows-sound, rows-move, rows-total, rows-small, rounded-few}
 use Rattle.walk.proofs.Agreement.{at-off, at-live, upper-exists, lower-exists, upper-is, lower-is, step-same, same-as-walk, same, not-wide}
@@ -55,6 +57,13 @@ mass-total a threshold E spends n =
     ap massOf (same-as-walk (walk a E n) (rows a E n) (same a threshold E spends n))
     ∙ ap (λ (x : ℕ). x + rows a E n .over + rows a E n .under) (at-live (rows a E n .first) (rows a E n .masses))
 
+-- masses at the counts from f on and below u make new ones at the counts from f to u only
+cells-off : (a : ℕ) (g : ℕ → ℕ) (f u : ℕ) → ((c : ℕ) → (c < f) ⊎ (u ≤ c) → g c ≡ 0) → (c : ℕ) → (c < f) ⊎ (u < c) → newMass a g c ≡ 0
+cells-off a g f u off zero (inl h) = rw (off 0 (inl h)) (mass-none a)
+cells-off a g f u off zero (inr h) = absurd (omega arith)
+cells-off a g f u off (suc c) (inl h) = rw (off (suc c) (inl h), off c (inl (omega arith))) (mass-none a)
+cells-off a g f u off (suc c) (inr h) = rw (off (suc c) (inr (omega arith)), off c (inr (omega arith))) (mass-none a)
+
 pub walk-facts : WalkTheorem
 unfolding lower byCount asWalk
 walk-facts a threshold E spends n =
@@ -62,6 +71,8 @@ walk-facts a threshold E spends n =
     let s′ = same a threshold E spends (suc n) in
     let m = rows-move a threshold E spends n in
     let r = rows-sound a threshold E spends n in
+    let off : (c : ℕ) → (c < walk a E n .first) ⊎ (walk a E n .upper ≤ c) → walk a E n .mass c ≡ 0 =
+    rw (same-as-walk (walk a E n) (rows a E n) s) (at-off (rows a E n .first) (rows a E n .masses)) in
     record {
       same = s;
       upper-is = upper-next a E n (omega (arith, spent-fits a threshold E spends Upper n, spends .rises n));
@@ -78,7 +89,8 @@ walk-facts a threshold E spends n =
         rows-total a threshold E spends n,
         rounded-few a threshold E spends n (not-wide a threshold E spends n .0 none),
       );
-      off = rw (same-as-walk (walk a E n) (rows a E n) s) (at-off (rows a E n .first) (rows a E n .masses));
+      off = off;
+      new-off = cells-off a (walk a E n .mass) (walk a E n .first) (walk a E n .upper) off;
       small = λ c. omega (
         arith,
         s .mass-same c,

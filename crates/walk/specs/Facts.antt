@@ -76,6 +76,8 @@ pub record WalkFacts (a : ℕ) (E : ℕ → ℕ) (n : ℕ) : Type 0 where
   pub no-more : NoWideBefore a E n → massOf (walk a E n) ≤ M + wide * n
   -- a count at or beyond a boundary is not live and has no mass
   pub off : (c : ℕ) → (c < walk a E n .first) ⊎ (walk a E n .upper ≤ c) → walk a E n .mass c ≡ 0
+  -- a count that rule 1 does not name, before the first live one or past the upper boundary, gets no new mass
+  pub new-off : (c : ℕ) → (c < walk a E n .first) ⊎ (walk a E n .upper < c) → newMass a (walk a E n .mass) c ≡ 0
   pub small : (c : ℕ) → walk a E n .mass c ≤ M
 
 abbrev pub WalkTheorem : Type 0

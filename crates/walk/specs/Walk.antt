@@ -43,7 +43,8 @@ cellwise cell g c = cell (g c) (previous g c)
 abbrev pub newMass : ℕ → (ℕ → ℕ) → ℕ → ℕ
 newMass a g = cellwise (massUp a) g
 
--- of the masses at counts 0 to t: those at counts ≥ j; those at counts < f, which are the counts ≤ f - 1
+-- of the new masses of step t, which are 0 past count t (specs/Facts, `new-off`, `top`): those at counts ≥ j; those at counts < f, which are
+-- the counts ≤ f - 1
 unfoldable pub massFrom : ℕ → (ℕ → ℕ) → ℕ → ℕ
 massFrom t g j = sumTo (suc t) (λ c. only (le? j c) (g c))
 
