@@ -1,4 +1,4 @@
--- A test that begins has not ended: no bucket contains the whole, nothing is wide, and the horizon is not 0. Assumes nothing.
+-- A beginning answers `open`: no bucket contains the whole, nothing is wide, and the horizon is not 0. Assumes nothing.
 use mathlib.Core.Path.{_≡_, refl, sym, _∙_}
 use mathlib.Core.Logic.{inl, inr}
 use mathlib.Core.Bool.{Bool, false, _&&_}
@@ -16,10 +16,11 @@ use Rattle.walk.proofs.Seams.{start-not-wide}
 use Rattle.bucket_test.specs.Tests.{eq?, largestTo, smallestTo}
 use Rattle.bucket_test.specs.Plan.{leftAt, rightAt, Permitted, Accepted}
 use Rattle.bucket_test.specs.Turn.{startRecord, noRecord, recordAt}
-use Rattle.bucket_test.specs.Answers.{lowOf, highOf, anyWide, contains, firstBucket, answerBy, answerOf, isEnding}
+use Rattle.bucket_test.specs.Answers.{lowOf, highOf, anyWide, contains, firstBucket, answerBy, answerOf}
 use Rattle.bucket_test.specs.Draw.{startState}
 use Rattle.bucket_test.proofs.PlaceLaws.{none-reads}
 use Rattle.bucket_test.specs.declared.Plan.{Plan}
+use Rattle.bucket_test.specs.declared.Answer.the-variants.{Open}
 
 search-none : (n j : ℕ) (test : ℕ → Bool) → ((i : ℕ) → j ≤ i → i < j + n → test i ≡ false) → searchUp n j test ≡ j + n
 unfolding searchUp
@@ -82,7 +83,7 @@ module _ (p : Plan) (ok : Accepted p) where
   unfolding startState eq?
   start-n = ne-eqb 0 (p .horizon) (λ e. omega (arith, ok .horizon-range))
 
-  pub start-open : isEnding (answerOf p startState) ≡ false
+  pub start-open : answerOf p startState ≡ Open
   unfolding answerOf answerBy
   start-open =
       rw (start-low, start-high, le?-fails (suc million) 0 (omega arith), no-bucket, start-thin, start-n)

@@ -9,25 +9,25 @@ use borrow.Author.Tests.{eq-eqb}
 use lib.ListN.{length}
 use Rattle.walk.specs.Numbers.{le?, lt?}
 use Rattle.walk.specs.Units.{wide}
-use Rattle.walk.specs.Strings.{Draws}
+use Rattle.walk.specs.Strings.{Draws, lastStep}
 use Rattle.walk.proofs.Tests.{test, Le?, le, gt, clash}
-use Rattle.walk.proofs.Chances.{chances, meeting-counts, allowed-always}
+use Rattle.walk.proofs.Chances.{meets-says, allowed-always, chances}
+use Rattle.walk.proofs.WalkFacts.{walk-facts}
 use Rattle.walk.proofs.Seams.{mark-nil, narrow-start}
 use Rattle.bucket_test.specs.Tests.{eq?, unless, firstRefusal}
 use Rattle.bucket_test.specs.Plan.{thresholdAt, spendingOf, planRefusal, Accepted}
 use Rattle.bucket_test.specs.Words.{partAt, wordsFit}
 use Rattle.bucket_test.specs.Turn.{recordAt}
-use Rattle.bucket_test.specs.Answers.{lowOf, highOf, anyWide, firstBucket, answerOf, answerBy, firstThatFits, isEnding, goesOn, refusalOf}
-use Rattle.bucket_test.specs.Draw.{Outcome, beginRefusal, begun, drawRefusal, drawnBy, drawn}
+use Rattle.bucket_test.specs.Answers.{lowOf, highOf, anyWide, firstBucket, answerOf, answerBy, firstThatFits, isEnding, refusalOf}
+use Rattle.bucket_test.specs.Draw.{Outcome, beginRefusal, begun, drawRefusal, nextState, drawnBy, drawn}
 use Rattle.bucket_test.specs.Carried.{carried, hasEnded, takenBy, taken}
-use Rattle.bucket_test.specs.Demand3.{Marks, Stands, lastStep, AnswersDraw, Answered, Demand3, Demand3Theorem}
+use Rattle.bucket_test.specs.Demand3.{Marks, Stands, AnswersDraw, Answered, Demand3, Demand3Theorem}
 use Rattle.bucket_test.proofs.Rules.{threshold-ok, spends, accepted}
 use Rattle.bucket_test.proofs.Beginning.{start-open}
 use Rattle.bucket_test.proofs.Following.{marks-say, stands-at}
 use Rattle.bucket_test.proofs.Invariant.{markAt, recordAfter, partAfter, stateFor, wordsFor, History, start-state, start-words, record-at, mark-at, part-at, size-at, words-fit, state-sound, next-state, next-words, history-next}
 use Rattle.bucket_test.specs.declared.State.{State}
 use Rattle.bucket_test.specs.declared.Plan.{Plan}
-use Rattle.bucket_test.specs.declared.Answer.the-variants.{Refused}
 
 -- the answer rule refuses nothing
 fits-any : (c b : Bool) (j : ℕ) (w e : Bool) → refusalOf (firstThatFits c b j w e) ≡ 0
@@ -43,22 +43,15 @@ rule-answers p s =
     fits-any (lt? (highOf p s) (lowOf p s)) (lt? (firstBucket p (lowOf p s) (highOf p s)) (p .buckets)) (firstBucket p (lowOf p s) (highOf p s))
     (anyWide p s) (eq? (s .n) (p .horizon))
 
+-- a refused draw leaves state and words as they are
+stays-by : (r : ℕ) (p : Plan) (s : State) (ws : List ℕ) (d : ℕ) → ¬ (refusalOf (drawnBy r p s ws d .answer) ≡ 0)
+    → (drawnBy r p s ws d .state ≡ s) × (drawnBy r p s ws d .words ≡ ws)
+stays-by zero p s ws d e = absurd (e (rule-answers p (nextState p s ws d)))
+stays-by (suc r) p s ws d e = (refl, refl)
+
 or-none : (x : Bool) → x ≡ (x || false)
 or-none true = refl
 or-none false = refl
-
-rule-no-refusal : (p : Plan) (s : State) (r : ℕ) → ¬ (answerOf p s ≡ Refused r)
-unfolding answerOf answerBy
-rule-no-refusal p s r =
-    never (lt? (highOf p s) (lowOf p s)) (lt? (firstBucket p (lowOf p s) (highOf p s)) (p .buckets)) (firstBucket p (lowOf p s) (highOf p s))
-    (anyWide p s) (eq? (s .n) (p .horizon))
-  where
-    never : (c b : Bool) (j : ℕ) (w e : Bool) → ¬ (firstThatFits c b j w e ≡ Refused r)
-    never true b j w e f = clash (ap isEnding f)
-    never false true j w e f = clash (ap isEnding f)
-    never false false j true e f = clash (ap isEnding f)
-    never false false j false true f = clash (ap isEnding f)
-    never false false j false false f = clash (ap goesOn f)
 
 -- the refusal that is due to a draw: 9, 10 or none
 unfoldable pub due : ℕ → Bool → ℕ
@@ -75,29 +68,31 @@ no-bit d h (inl z) = omega arith
 no-bit d h (inr z) = omega arith
 
 module _ (p : Plan) (d : ℕ) (ended : Bool) (o : Outcome) where
-  answers-9 : o .answer ≡ Refused 9 → 1 < d → AnswersDraw p d ended o
+  answers-9 : refusalOf (o .answer) ≡ 9 → 1 < d → AnswersDraw p d ended o
   answers-9 e h = record {
     by-9 = (λ q. no-bit d h, λ q. e);
-    by-10 = (λ q. absurd (omega (arith, ap refusalOf (sym e ∙ q))), λ q. absurd (no-bit d h (q .0)));
-    by-no-other = λ r q. inl (sym (ap refusalOf (sym e ∙ q)));
-    by-rule = λ q. absurd (q 9 e);
+    by-10 = (λ q. absurd (omega (arith, sym e ∙ q)), λ q. absurd (no-bit d h (q .0)));
+    by-no-other = inr (inl e);
+    by-rule = λ q. absurd (omega (arith, sym e ∙ q));
   }
 
-  answers-10 : o .answer ≡ Refused 10 → d ≤ 1 → ended ≡ true → AnswersDraw p d ended o
+  answers-10 : refusalOf (o .answer) ≡ 10 → d ≤ 1 → ended ≡ true → AnswersDraw p d ended o
   answers-10 e h f = record {
-    by-9 = (λ q. absurd (omega (arith, ap refusalOf (sym e ∙ q))), λ q. absurd (q (bit-is d h)));
+    by-9 = (λ q. absurd (omega (arith, sym e ∙ q)), λ q. absurd (q (bit-is d h)));
     by-10 = (λ q. (bit-is d h, f), λ q. e);
-    by-no-other = λ r q. inr (sym (ap refusalOf (sym e ∙ q)));
-    by-rule = λ q. absurd (q 10 e);
+    by-no-other = inr (inr e);
+    by-rule = λ q. absurd (omega (arith, sym e ∙ q));
   }
 
   answers-rule : o .answer ≡ answerOf p (o .state) → d ≤ 1 → ended ≡ false → AnswersDraw p d ended o
-  answers-rule e h f = record {
-    by-9 = (λ q. absurd (rule-no-refusal p (o .state) 9 (sym e ∙ q)), λ q. absurd (q (bit-is d h)));
-    by-10 = (λ q. absurd (rule-no-refusal p (o .state) 10 (sym e ∙ q)), λ q. clash (sym (q .1) ∙ f));
-    by-no-other = λ r q. absurd (rule-no-refusal p (o .state) r (sym e ∙ q));
-    by-rule = λ q. e;
-  }
+  answers-rule e h f =
+      let none : refusalOf (o .answer) ≡ 0 = ap refusalOf e ∙ rule-answers p (o .state) in
+      record {
+        by-9 = (λ q. absurd (omega (arith, sym none ∙ q)), λ q. absurd (q (bit-is d h)));
+        by-10 = (λ q. absurd (omega (arith, sym none ∙ q)), λ q. clash (sym (q .1) ∙ f));
+        by-no-other = inl none;
+        by-rule = λ q. e;
+      }
 
 module _ (p : Plan) (ok : Accepted p) (good : planRefusal p ≡ 0) (words : List ℕ) (size : length words ≡ wide * p .count) where
   -- after the draws ds: state and words are those of the draws taken, whose history is sound, and the answer rule put to the state says
@@ -121,8 +116,8 @@ module _ (p : Plan) (ok : Accepted p) (good : planRefusal p ≡ 0) (words : List
     state-is = rw begin-accepted (start-state p ok);
     words-is = rw begin-accepted (start-words p ok);
     history = record { in-time = omega arith; narrow = λ i l. rw (mark-nil (thresholdAt p i) (spendingOf p i)) (narrow-start (thresholdAt p i) (spendingOf p i)) };
-    ended-is = rw (← (start-state p ok)) (start-open p ok);
-    answered = rw begin-accepted;
+    ended-is = rw (← (start-state p ok), start-open p ok);
+    answered = rw begin-accepted (start-open p ok);
   }
 
   -- ---- one more draw
@@ -202,16 +197,6 @@ module _ (p : Plan) (ok : Accepted p) (good : planRefusal p ≡ 0) (words : List
       answered = (rw called (took .answers), h .answered);
     }
 
-    -- a test that has ended stays as it is
-    stays : hasEnded p words ds ≡ true
-        → (carried p words (d ∷ ds) .state ≡ carried p words ds .state) × (carried p words (d ∷ ds) .words ≡ carried p words ds .words)
-    unfolding due
-    stays e = rw (called, e) (go (le? d 1))
-      where
-        go : (x : Bool) → (call (firstRefusal (unless x 9 ∷ 10 ∷ [])) .state ≡ carried p words ds .state) × (call (firstRefusal (unless x 9 ∷ 10 ∷ [])) .words ≡ carried p words ds .words)
-        go true = (refl, refl)
-        go false = (refl, refl)
-
   -- after every list of draws
   pub held : (ds : List ℕ) → Held ds
   held [] = held-begin
@@ -242,18 +227,26 @@ module _ (p : Plan) (ok : Accepted p) (good : planRefusal p ≡ 0) (words : List
           rw (mark-now, record-now, part-now)
           (stands-at (thresholdAt p i) (spendingOf p i) (threshold-ok p ok i l) (spends p ok i l) (markAt p i t) (length t) (size-at p ok t (held ds .history) i l))
 
+    stays : (d : ℕ) → ¬ (refusalOf (carried p words (d ∷ ds) .answer) ≡ 0)
+        → (carried p words (d ∷ ds) .state ≡ carried p words ds .state) × (carried p words (d ∷ ds) .words ≡ carried p words ds .words)
+    unfolding carried drawn
+    stays d =
+        stays-by (drawRefusal p (carried p words ds .state) (carried p words ds .words) d) p (carried p words ds .state) (carried p words ds .words) d
+
     pub demand-3-at : Demand3 p words ds
     unfolding stateFor
     demand-3-at = record {
       answered = held ds .answered;
-      ended-stays = λ d e. stays d ds (held ds) e;
+      refused-stays = stays;
       n-is = rw (held ds .state-is);
       ones-is = rw (held ds .state-is);
       marks = marks-now;
       stands = stands-now;
-      counted = λ i l s none side. meeting-counts (thresholdAt p i) (threshold-ok p ok i l) (spendingOf p i) (spends p ok i l) s none side;
+      not-continued = λ i l. rw (mark-now i l) (held ds .history .narrow i l);
+      facts = λ i l n. walk-facts (thresholdAt p i) (threshold-ok p ok i l) (spendingOf p i) (spends p ok i l) n;
+      counted = λ i l s side. meets-says (thresholdAt p i) (threshold-ok p ok i l) (spendingOf p i) (spends p ok i l) s side;
+      allowed = λ i l n side. allowed-always (thresholdAt p i) (threshold-ok p ok i l) (spendingOf p i) (spends p ok i l) side n;
       chances = λ i l n none side. chances (thresholdAt p i) (threshold-ok p ok i l) (spendingOf p i) (spends p ok i l) side n none;
-      allowed = λ i l n side test picks. allowed-always (thresholdAt p i) (threshold-ok p ok i l) (spendingOf p i) (spends p ok i l) side n test picks;
     }
 
 -- demand 3, whole

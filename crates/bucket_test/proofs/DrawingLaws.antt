@@ -4,6 +4,7 @@ use mathlib.Core.Path.{_≡_, refl, sym, ap, _∙_}
 use mathlib.Core.Bool.{true, false, _&&_}
 use mathlib.Core.List.{List, [], _∷_}
 use Prim.Native.Nat.{ℕ, zero, suc, _+_, _*_, _≤_, _<_}
+use native.Mathlib.Nat.{le-of-lt}
 use native.Mathlib.Numerals.{add-one}
 use native.Mathlib.Omega.{arith}
 use borrow.Author.Tests.{eqb-false}
@@ -37,7 +38,7 @@ use Rattle.bucket_test.proofs.TurningLaws.{part-length}
 
 -- ---- a threshold that refusal 11 lets through and that is not wide may have its turn
 
-may-turn-by : (E : ℕ → ℕ) (n S a : ℕ) → a ≤ million → IsSpending E → n < horizonLimit
+may-turn-by : (E : ℕ → ℕ) (n S a : ℕ) → a ≤ million → IsSpending E → n ≤ horizonLimit
     → (t : Threshold) (part : List ℕ) → length part ≡ wide
     → (m : Mark) → recordSound (E n) n S m t part ≡ true → (isOpen m && isWide (t .walked)) ≡ false → MayTurn a (E (suc n)) m t part
 may-turn-by E n S a threshold spends early t part size Open sound thin =
@@ -79,7 +80,7 @@ module _ (p : Plan) (s : State) (ws : List ℕ) (good : planRefusal p ≡ 0) (fi
       → MayTurn (thresholdAt p i) (spendingOf p i (suc (s .n))) (recordAt s i .mark) (recordAt s i) (partAt i ws)
   unfolding anyWide
   all-may-turn i l =
-      may-turn-by (spendingOf p i) (s .n) (s .ones) (thresholdAt p i) (threshold-ok p ok i l) (spends p ok i l) early
+      may-turn-by (spendingOf p i) (s .n) (s .ones) (thresholdAt p i) (threshold-ok p ok i l) (spends p ok i l) (le-of-lt early)
       (recordAt s i) (partAt i ws) (part-length ws (p .count) i fits l) (recordAt s i .mark) (sound-at i l)
       (none-reads (λ i. isOpen (recordAt s i .mark) && isWide (recordAt s i .walked)) (p .count) .0 (not-over .0) i l)
 

@@ -4,25 +4,24 @@ use mathlib.Core.Path.{_≡_, refl, sym, ap, _∙_}
 use mathlib.Core.Bool.{Bool, true, false}
 use mathlib.Core.List.{List, _∷_}
 use Prim.Native.Nat.{ℕ, suc, _≤_}
-use native.Mathlib.Omega.{arith}
 use lib.ListN.{length}
 use Rattle.walk.specs.Numbers.{le?, lt?}
 use Rattle.walk.specs.Units.{million, wide}
 use Rattle.walk.specs.Spending.{IsSpending}
 use Rattle.walk.specs.Walk.{firstAt, upperAt, NoWideBefore}
 use Rattle.walk.specs.Row.{Row, upper, startRow, rows}
-use Rattle.walk.specs.Strings.{Draws, ones, Side, Upper, Lower, judged, orElse, settled}
+use Rattle.walk.specs.Strings.{Draws, ones, Side, Upper, Lower, judged, orElse, settled, lastStep}
 use Rattle.walk.specs.Record.{recordOf, padded}
 use Rattle.walk.specs.declared.Mark.{Mark}
 use Rattle.walk.specs.declared.Mark.the-variants.{Open, Above, AtMost}
 use Rattle.walk.proofs.Tests.{le?-complete}
 use Rattle.walk.proofs.RowSteps.{rows-fit}
-use Rattle.walk.proofs.Agreement.{order, not-wide}
-use Rattle.walk.proofs.Meeting.{mark-meets, mark-open}
+use Rattle.walk.proofs.Agreement.{in-order, not-wide}
+use Rattle.walk.proofs.Meeting.{last-settled, mark-meets, mark-open}
 use Rattle.walk.proofs.Checks.{padded-length, row-back, walk-passes}
 use Rattle.walk.proofs.Seams.{rows-zero, rows-suc, markOf, verdictOf, mark-cons, verdict-row, verdict-record, record-walk, padded-word, open-inside, narrow-next, mass-word}
 use Rattle.bucket_test.specs.Turn.{startRecord, marked, walkedOn, turnRecord, turnPart, recordSound}
-use Rattle.bucket_test.specs.Demand3.{Marks, Stands, lastStep}
+use Rattle.bucket_test.specs.Demand3.{Marks, Stands}
 use Rattle.bucket_test.specs.declared.Threshold.{Threshold}
 
 module _ (a : ℕ) (E : ℕ → ℕ) where
@@ -76,12 +75,8 @@ module _ (a : ℕ) (E : ℕ → ℕ) where
 
     -- ---- what record and part say of the draws s
 
-    last-settled : (side : Side) (t n : ℕ) → lastStep (settled side t) n ≡ t
-    last-settled Upper t n = refl
-    last-settled Lower t n = refl
-
     orders : (t : ℕ) → firstAt a E t ≤ upperAt a E t
-    orders t = omega (arith, order a threshold E spends t)
+    orders = in-order a threshold E spends
 
     module _ (s : Draws) (none : NoWideBefore a E (lastStep (markOf a E s) (length s))) where
       not-past : (side : Side) (t : ℕ) → markOf a E s ≡ settled side t → NoWideBefore a E t

@@ -11,7 +11,7 @@ use Rattle.walk.specs.Numbers.{le?, lt?}
 use Rattle.walk.specs.Units.{wide}
 use Rattle.walk.specs.Walk.{NoWideBefore}
 use Rattle.walk.specs.Row.{Row, rows}
-use Rattle.walk.specs.Strings.{Draws, ones, isOpen}
+use Rattle.walk.specs.Strings.{Draws, ones, isOpen, lastStep}
 use Rattle.walk.specs.Record.{isWide}
 use Rattle.walk.specs.declared.Mark.{Mark}
 use Rattle.walk.specs.declared.Mark.the-variants.{Open}
@@ -24,7 +24,6 @@ use Rattle.bucket_test.specs.Words.{partAt, wordsFit}
 use Rattle.bucket_test.specs.Turn.{startRecord, noRecord, recordAt, turnRecord, turnPart, recordSound}
 use Rattle.bucket_test.specs.Answers.{lowOf, highOf, anyWide, firstBucket, firstThatFits, answerBy, answerOf, isEnding}
 use Rattle.bucket_test.specs.Draw.{startState, startWords, stateSound, nextState, nextWords}
-use Rattle.bucket_test.specs.Demand3.{lastStep}
 use Rattle.bucket_test.proofs.PlaceLaws.{all-reads, none-reads}
 use Rattle.bucket_test.proofs.PlaceLists.{over-get, over-over, over-same, join-cong, join-length, join-part}
 use Rattle.bucket_test.proofs.Rules.{threshold-ok, spends}

@@ -6,20 +6,21 @@ use mathlib.Core.List.{List, [], _∷_}
 use Prim.Native.Nat.{ℕ, _+_, _*_, _^_, _≤_, _<_}
 use lib.ListN.{length, getD}
 use Rattle.walk.specs.Units.{M, million, wide}
-use Rattle.walk.specs.Walk.{walk, lower, firstAt, upperAt, NoWideBefore}
-use Rattle.walk.specs.Strings.{Draws, ones, chance, Side, settled, mark, isOn}
-use Rattle.walk.specs.Chance.{Meets, meeting, spent, Bounds}
+use Rattle.walk.specs.Walk.{walk, lower, NoWideBefore}
+use Rattle.walk.specs.Strings.{Draws, ones, Side, settled, lastStep}
+use Rattle.walk.specs.Facts.{WalkFacts}
+use Rattle.walk.specs.Chance.{Meets, meets?, meeting, spent, Bounds}
 use Rattle.walk.specs.declared.Mark.{Mark}
-use Rattle.walk.specs.declared.Mark.the-variants.{Open, Above, AtMost}
+use Rattle.walk.specs.declared.Mark.the-variants.{Open}
 use Rattle.bucket_test.specs.Plan.{thresholdAt, spendingOf, Accepted}
 use Rattle.bucket_test.specs.Words.{partAt}
 use Rattle.bucket_test.specs.Turn.{recordAt}
-use Rattle.bucket_test.specs.Answers.{answerOf}
+use Rattle.bucket_test.specs.Answers.{answerOf, refusalOf}
 use Rattle.bucket_test.specs.Draw.{Outcome}
 use Rattle.bucket_test.specs.Carried.{carried, hasEnded, taken}
 use Rattle.bucket_test.specs.declared.Threshold.{Threshold}
 use Rattle.bucket_test.specs.declared.Plan.{Plan}
-use Rattle.bucket_test.specs.declared.Answer.the-variants.{Refused}
+use Rattle.bucket_test.specs.declared.Answer.the-variants.{Open as OpenAnswer}
 
 -- ---- one threshold a with the spending E, after the draws s
 
@@ -38,32 +39,26 @@ module _ (a : ℕ) (E : ℕ → ℕ) where
     pub size : length part ≡ wide
     pub masses : (j : ℕ) → j < wide → getD part j 0 ≡ walk a E t .mass (walk a E t .first + j)
 
--- the last step walked, after n draws taken: an open threshold's is n, a settled one's the step where the draws first met a boundary
-abbrev pub lastStep : Mark → ℕ → ℕ
-lastStep Open n = n
-lastStep (Above t) n = t
-lastStep (AtMost t) n = t
-
 -- ---- the claim on the whole list and all strings
 
 -- the answer to the draw d, where `ended` says whether an earlier draw had an ending answer: refused by 9 exactly when d is neither 0 nor 1,
 -- else by 10 exactly when an earlier one had, by nothing else; any other answer is the answer rule's for the state just reached
 pub record AnswersDraw (p : Plan) (d : ℕ) (ended : Bool) (o : Outcome) : Type 0 where
-  pub by-9 : (o .answer ≡ Refused 9) ↔ (¬ ((d ≡ 0) ⊎ (d ≡ 1)))
-  pub by-10 : (o .answer ≡ Refused 10) ↔ (((d ≡ 0) ⊎ (d ≡ 1)) × (ended ≡ true))
-  pub by-no-other : (r : ℕ) → o .answer ≡ Refused r → (r ≡ 9) ⊎ (r ≡ 10)
-  pub by-rule : ((r : ℕ) → ¬ (o .answer ≡ Refused r)) → o .answer ≡ answerOf p (o .state)
+  pub by-9 : (refusalOf (o .answer) ≡ 9) ↔ (¬ ((d ≡ 0) ⊎ (d ≡ 1)))
+  pub by-10 : (refusalOf (o .answer) ≡ 10) ↔ (((d ≡ 0) ⊎ (d ≡ 1)) × (ended ≡ true))
+  pub by-no-other : (refusalOf (o .answer) ≡ 0) ⊎ ((refusalOf (o .answer) ≡ 9) ⊎ (refusalOf (o .answer) ≡ 10))
+  pub by-rule : refusalOf (o .answer) ≡ 0 → o .answer ≡ answerOf p (o .state)
 
 module _ (p : Plan) (words : List ℕ) where
-  -- each draw of the list is so answered
+  -- the beginning is answered `open`, and each draw of the list as above
   unfoldable pub Answered : List ℕ → Type 0
-  Answered [] = carried p words [] .answer ≡ answerOf p (carried p words [] .state)
+  Answered [] = carried p words [] .answer ≡ OpenAnswer
   Answered (d ∷ ds) = AnswersDraw p d (hasEnded p words ds) (carried p words (d ∷ ds)) × Answered ds
 
   pub record Demand3 (ds : List ℕ) : Type 0 where
     pub answered : Answered ds
-    -- a test that has ended stays as it is
-    pub ended-stays : (d : ℕ) → hasEnded p words ds ≡ true
+    -- a refused draw leaves state and words as they are
+    pub refused-stays : (d : ℕ) → ¬ (refusalOf (carried p words (d ∷ ds) .answer) ≡ 0)
         → (carried p words (d ∷ ds) .state ≡ carried p words ds .state) × (carried p words (d ∷ ds) .words ≡ carried p words ds .words)
     pub n-is : carried p words ds .state .n ≡ length (taken p words ds)
     pub ones-is : carried p words ds .state .ones ≡ ones (taken p words ds)
@@ -71,17 +66,21 @@ module _ (p : Plan) (words : List ℕ) where
     pub stands : (i : ℕ) → i < p .count
         → Stands (thresholdAt p i) (spendingOf p i) (lastStep (recordAt (carried p words ds .state) i .mark) (length (taken p words ds)))
         (recordAt (carried p words ds .state) i) (partAt i (carried p words ds .words))
-    -- the chances, from n = 0 on: up to the first wide step W sums the weights of exactly the strings that meet the side's boundary first at
-    -- some step, and is bounded by E(n) and, in both directions, by the spent mass ..
-    pub counted : (i : ℕ) → i < p .count → (s : Draws) → NoWideBefore (thresholdAt p i) (spendingOf p i) (length s) → (side : Side)
-        → (isOn side (mark (firstAt (thresholdAt p i) (spendingOf p i)) (upperAt (thresholdAt p i) (spendingOf p i)) s) ≡ true)
-        ↔ ((t : ℕ) × Meets (thresholdAt p i) (spendingOf p i) side t s)
+    -- no threshold walked past its first wide step
+    pub not-continued : (i : ℕ) → i < p .count
+        → NoWideBefore (thresholdAt p i) (spendingOf p i) (lastStep (recordAt (carried p words ds .state) i .mark) (length (taken p words ds)))
+    -- 01's facts of the walk of each threshold, at every step
+    pub facts : (i : ℕ) → i < p .count → (n : ℕ) → WalkFacts (thresholdAt p i) (spendingOf p i) n
+    -- the chances: W, which is `meeting`, sums the weights of exactly the strings that meet the side's boundary first at some step, not past
+    -- the first wide one ..
+    pub counted : (i : ℕ) → i < p .count → (s : Draws) (side : Side)
+        → (meets? (thresholdAt p i) (spendingOf p i) side s ≡ true) ↔ ((t : ℕ) × Meets (thresholdAt p i) (spendingOf p i) side t s)
+    -- .. E(n) bounds it from n = 0 on, wide or not ..
+    pub allowed : (i : ℕ) → i < p .count → (n : ℕ) (side : Side)
+        → meeting (thresholdAt p i) (spendingOf p i) side n * M ≤ spendingOf p i n * million ^ n
+    -- .. and the spent mass bounds it in both directions, from n = 0 on and up to the first wide step, after which no walk goes on
     pub chances : (i : ℕ) → i < p .count → (n : ℕ) → NoWideBefore (thresholdAt p i) (spendingOf p i) n → (side : Side)
-        → Bounds (spendingOf p i) n (meeting (thresholdAt p i) (spendingOf p i) side n) (spent side (walk (thresholdAt p i) (spendingOf p i) n)) (wide * n)
-    -- .. and past it too, E(n) bounds the weight of the strings that meet the side's boundary at a step not past it
-    pub allowed : (i : ℕ) → i < p .count → (n : ℕ) (side : Side) (test : Draws → Bool)
-        → ((s : Draws) → length s ≡ n → test s ≡ true → (t : ℕ) × Meets (thresholdAt p i) (spendingOf p i) side t s)
-        → chance (thresholdAt p i) million n test * M ≤ spendingOf p i n * million ^ n
+        → Bounds n (meeting (thresholdAt p i) (spendingOf p i) side n) (spent side (walk (thresholdAt p i) (spendingOf p i) n)) (wide * n)
 
 -- of every accepted plan, every lent words of the right number, and every list
 abbrev pub Demand3Theorem : Type 0

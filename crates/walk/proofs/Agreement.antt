@@ -1,7 +1,7 @@
 -- The two forms of the walk agree at every step: the row's boundaries are the smallest and the largest of rules 2 and 3, and what a step
 -- makes of the row is what it makes of the masses by count. Assumes nothing.
 use mathlib.Core.Path.{_≡_, refl, sym, ap, _∙_, fun-ext}
-use mathlib.Core.Logic.{_↔_}
+use mathlib.Core.Logic.{_↔_, _⊎_, inl, inr}
 use mathlib.Core.Bool.{Bool, true, false}
 use mathlib.Core.List.{List, [], _∷_}
 use Prim.Native.Nat.{ℕ, zero, suc, _+_, _-_, _≤_, _<_}
@@ -16,7 +16,7 @@ use Rattle.walk.specs.Mass.{massUp}
 use Rattle.walk.specs.Walk.{Walk, previous, cellwise, newMass, massFrom, massBelow, FitsUpper, FitsLower, upperBoundary, firstLive, start, absorbed, stepWalk, walk, firstAt, upperAt, NoWideBefore}
 use Rattle.walk.specs.Row.{Row, upper, byCount, startRow, cellsBy, newMasses, kept, dropped, cut, stepRow, rows, Sound}
 use Rattle.walk.specs.Facts.{asWalk, Same}
-use Rattle.walk.proofs.Tests.{test, Le?, le, gt, le?-complete, le?-fails, only-fails, only-holds, sum-cong, sum-le, sum-zero}
+use Rattle.walk.proofs.Tests.{test, Le?, le, gt, le?-complete, le?-fails, only-only, only-fails, only-holds, sum-cong, sum-le, sum-zero}
 use Rattle.walk.proofs.Lists.{sum-take-suc, sum-take-drop}
 use Rattle.walk.proofs.Rounding.{mass-none}
 use Rattle.walk.proofs.Cells.{cells-length, comes, cells-getD}
@@ -31,6 +31,13 @@ at-below f xs c h = only-fails f c (getD xs (c - f) 0) h
 pub at-add : (f : ℕ) (xs : List ℕ) (i : ℕ) → byCount f xs (f + i) ≡ getD xs i 0
 unfolding byCount
 at-add f xs i = rw (only-holds f (f + i) (getD xs (f + i - f) 0) (omega arith), add-sub-cancel-left f i)
+
+-- no mass is at another count than those of the list
+pub at-off : (f : ℕ) (xs : List ℕ) (c : ℕ) → (c < f) ⊎ (f + length xs ≤ c) → byCount f xs c ≡ 0
+at-off f xs c (inl h) = at-below f xs c h
+at-off f xs c (inr h) =
+    let e : f + (c - f) ≡ c = omega arith in
+    (rw e at (at-add f xs (c - f))) ∙ List·getD-eq-default xs 0 (omega arith)
 
 -- what holds below f and at each f + i holds at every count
 by-place : (f : ℕ) (P : ℕ → Type 0) → ((c : ℕ) → c < f → P c) → ((i : ℕ) → P (f + i)) → (c : ℕ) → P c
@@ -63,6 +70,14 @@ module _ (cell : ℕ → ℕ → ℕ) (none : cell 0 0 ≡ 0) (f : ℕ) (xs : Li
 at-sum : (f : ℕ) (xs : List ℕ) (i : ℕ) → sumTo (f + i) (byCount f xs) ≡ sum (take i xs)
 at-sum f xs zero = rw add-zero (sum-zero f (byCount f xs) (λ c h. at-below f xs c h))
 at-sum f xs (suc i) = rw add-suc (omega (arith, at-sum f xs i, at-add f xs i, sum-take-suc xs i))
+
+-- all of it, over the counts from f on
+pub at-live : (f : ℕ) (xs : List ℕ) → sumTo (f + length xs) (λ c. only (le? f c) (byCount f xs c)) ≡ sum xs
+unfolding byCount
+at-live f xs =
+    sum-cong (f + length xs) _ _ (λ c l. only-only (le? f c) (getD xs (c - f) 0))
+    ∙ at-sum f xs (length xs)
+    ∙ rw (take-all (length xs) xs (omega arith))
 
 -- the counts < j among the first j + r
 below-sum : (g : ℕ → ℕ) (j r : ℕ) → sumTo (j + r) (λ c. only (lt? c j) (g c)) ≡ sumTo j g
@@ -278,8 +293,8 @@ module _ (a : ℕ) (threshold : a ≤ million) (E : ℕ → ℕ) (spends : IsSpe
   unfolding upperAt
   upper-at n = same n .upper-same
 
-  pub order : (n : ℕ) → firstAt a E n < upperAt a E n
-  order n = omega (arith, first-at n, upper-at n, rows-sound a threshold E spends n .sound .live)
+  pub in-order : (n : ℕ) → firstAt a E n ≤ upperAt a E n
+  in-order n = omega (arith, first-at n, upper-at n)
 
   pub not-wide : (n : ℕ) → NoWideBefore a E n ↔ ((t : ℕ) → t < n → ¬ (length (rows a E t .masses) ≡ wide))
   unfolding NoWideBefore

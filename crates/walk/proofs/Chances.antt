@@ -1,27 +1,53 @@
 -- The chance theorem: no mass is below its chance, and the spent masses exceed theirs by no more than was rounded. Assumes nothing.
 use mathlib.Core.Path.{_≡_, refl, ap, _∙_}
 use mathlib.Core.Bool.{Bool, true, false}
-use mathlib.Core.Logic.{_↔_}
+use mathlib.Core.Logic.{_↔_, ⊎-elim}
 use Prim.Native.Nat.{ℕ, zero, suc, _+_, _*_, _-_, _^_, _≤_}
-use native.Mathlib.Nat.{sub-add-cancel, mul-le-mul-right, pow-suc, pow-zero, le-trans, le-of-lt}
+use native.Mathlib.Nat.{sub-add-cancel, mul-le-mul-right, pow-suc, pow-zero, eq-or-lt-of-le}
 use native.Mathlib.Omega.{arith}
+use borrow.Author.Tests.{ne-eqb, eqb-false}
 use lib.ListN.{length}
 use Rattle.walk.specs.Numbers.{le?, lt?, between, only, sumTo, sum}
-use Rattle.walk.specs.Units.{M, million, wide}
+use Rattle.walk.specs.Units.{M, million}
 use Rattle.walk.specs.Spending.{IsSpending}
 use Rattle.walk.specs.Mass.{reaching}
-use Rattle.walk.specs.Walk.{previous, newMass, massFrom, massBelow, start, absorbed, stepWalk, walk, firstAt, upperAt, NoWideBefore}
+use Rattle.walk.specs.Walk.{previous, newMass, massFrom, massBelow, start, absorbed, stepWalk, walk, firstAt, upperAt, Wide, NoWideBefore, noWideBefore?}
 use Rattle.walk.specs.Row.{total, rows, roundedBy}
-use Rattle.walk.specs.Strings.{Draws, weight, Side, Upper, Lower, verdict, mark, isOn, isOpen, chance}
-use Rattle.walk.specs.Facts.{massOf}
-use Rattle.walk.specs.Chance.{Meets, meeting, spent, Bounds, ChanceTheorem, AllowedTheorem}
-use Rattle.walk.proofs.Tests.{only-scale, sum-cong, sum-le, sum-mul}
+use Rattle.walk.specs.Strings.{Draws, weight, Side, Upper, Lower, MeetsFirst, verdict, mark, isOn, isOpen, lastStep, chance}
+use Rattle.walk.specs.Chance.{Meets, meets?, meeting, spent, Bounds, ChanceTheorem, AllowedTheorem}
+use Rattle.walk.proofs.Tests.{and-true, not-true, only-scale, sum-cong, sum-le, sum-mul}
 use Rattle.walk.proofs.Rounding.{mass-ge}
 use Rattle.walk.proofs.RowSteps.{rows-sound, rows-total, rounded-few}
-use Rattle.walk.proofs.Agreement.{at-total, same, order, not-wide}
+use Rattle.walk.proofs.Agreement.{at-total, same, in-order, not-wide}
 use Rattle.walk.proofs.Exact.{shifted, exact, met, exact-suc, met-zero, met-suc, met-sum, whole, open-off, verdict-tests}
 use Rattle.walk.proofs.StringLaws.{strings-le}
-use Rattle.walk.proofs.Meeting.{mark-on}
+use Rattle.walk.proofs.Meeting.{last-settled, mark-on, mark-meets}
+
+-- a test that passes less weighs less
+chance-le : (x y n : ℕ) (f g : Draws → Bool) → ((s : Draws) → length s ≡ n → f s ≡ true → g s ≡ true) → chance x y n f ≤ chance x y n g
+unfolding chance
+chance-le x y n f g h = strings-le n _ _ (λ s l. go (f s) (g s) (weight x (y - x) s) (h s l))
+  where
+    go : (p q : Bool) (w : ℕ) → (p ≡ true → q ≡ true) → only p w ≤ only q w
+    go true q w i = rw (i refl) (omega arith)
+    go false q w i = omega arith
+
+-- the first wide step, as a test and in words
+narrow-says : (a : ℕ) (E : ℕ → ℕ) (n : ℕ) → (noWideBefore? a E n ≡ true) ↔ NoWideBefore a E n
+unfolding noWideBefore? NoWideBefore
+narrow-says a E zero = (λ e t l. absurd (omega arith), λ none. refl)
+narrow-says a E (suc n) = (
+  λ e t l w.
+      let b = and-true (noWideBefore? a E n) _ e in
+      ⊎-elim
+      (λ (q : suc t ≡ suc n).
+      let r : t ≡ n = omega arith in
+      let v : Wide (walk a E n) = rw r at w in
+      eqb-false _ _ (not-true _ (b .1)) v)
+      (λ k. narrow-says a E n .0 (b .0) t (omega arith) w)
+      (eq-or-lt-of-le l),
+  λ none. cc (narrow-says a E n .1 (λ t l. none t (omega arith)), ne-eqb _ _ (none n (omega arith))),
+)
 
 module _ (a : ℕ) (threshold : a ≤ million) (E : ℕ → ℕ) (spends : IsSpending E) where
   abbrev F : ℕ → ℕ
@@ -29,6 +55,9 @@ module _ (a : ℕ) (threshold : a ≤ million) (E : ℕ → ℕ) (spends : IsSpe
 
   abbrev U : ℕ → ℕ
   U = upperAt a E
+
+  orders : (t : ℕ) → F t ≤ U t
+  orders = in-order a threshold E spends
 
   -- the exact weights by count, and those settled on a side
   abbrev live : ℕ → ℕ → ℕ
@@ -40,7 +69,7 @@ module _ (a : ℕ) (threshold : a ≤ million) (E : ℕ → ℕ) (spends : IsSpe
   -- ---- one step of the walk, by the verdict on each count
 
   verdicts : (t c : ℕ) → (isOpen (verdict F U t c) ≡ between (F t) (U t) c) × (isOn Upper (verdict F U t c) ≡ le? (U t) c) × (isOn Lower (verdict F U t c) ≡ lt? c (F t))
-  verdicts t c = verdict-tests F U t c (omega (arith, order a threshold E spends t))
+  verdicts t c = verdict-tests F U t c (orders t)
 
   mass-suc : (n c : ℕ) → walk a E (suc n) .mass c ≡ only (isOpen (verdict F U (suc n) c)) (newMass a (walk a E n .mass) c)
   unfolding walk stepWalk absorbed firstAt upperAt
@@ -96,7 +125,7 @@ module _ (a : ℕ) (threshold : a ≤ million) (E : ℕ → ℕ) (spends : IsSpe
 
   -- ---- all masses together exceed the whole by no more than was rounded
 
-  pub walk-total : (n : ℕ) → massOf n (walk a E n) ≡ total (rows a E n)
+  walk-total : (n : ℕ) → sumTo (suc n) (walk a E n .mass) + walk a E n .over + walk a E n .under ≡ total (rows a E n)
   walk-total n =
       let s = same a threshold E spends n in
       let m : sumTo (suc n) (walk a E n .mass) ≡ sum (rows a E n .masses) =
@@ -129,55 +158,57 @@ module _ (a : ℕ) (threshold : a ≤ million) (E : ℕ → ℕ) (spends : IsSpe
   spent-fits Upper n = omega (arith, same a threshold E spends n .over-same, rows-sound a threshold E spends n .sound .over-fits)
   spent-fits Lower n = omega (arith, same a threshold E spends n .under-same, rows-sound a threshold E spends n .sound .under-fits)
 
-  meeting-is : (side : Side) (n : ℕ) → meeting a E side n ≡ settledOn side n
-  unfolding meeting chance
-  meeting-is side n = met-sum a (million - a) F U (isOn side) (open-off side) n
+  -- the test of W in words: the string meets the side's boundary of this walk first at some step
+  module _ (s : Draws) (side : Side) where
+    last : (t : ℕ) → MeetsFirst F U side t s → lastStep (mark F U s) (length s) ≡ t
+    last t h = rw (mark-meets F U orders s side t .1 h) (last-settled side t (length s))
 
-  -- wide or not, in the finer form: one unit for each cell that was really rounded
-  pub chances-by-rounding : (side : Side) (n : ℕ) → Bounds E n (meeting a E side n) (spent side (walk a E n)) (roundedBy a E n)
-  chances-by-rounding side n =
-      rw (meeting-is side n)
-      (record {
-        allowed = le-trans (spent-ge side n) (mul-le-mul-right (million ^ n) (spent-fits side n));
-        at-least = spent-ge side n;
-        at-most = spent-le side n;
-      })
+    pub meets-says : (meets? a E side s ≡ true) ↔ ((t : ℕ) × Meets a E side t s)
+    unfolding meets?
+    meets-says = (
+      λ e.
+          let b = and-true (isOn side (mark F U s)) _ e in
+          let h = mark-on F U orders s side .0 (b .0) in
+          (h .0, record { meets = h .1; not-past = narrow-says a E (h .0) .0 (rw (last (h .0) (h .1)) at (b .1)) }),
+      λ (t, h). cc (mark-on F U orders s side .1 (t, h .meets), last t (h .meets), narrow-says a E t .1 (h .not-past)),
+    )
 
-  -- what W counts: of the strings of n draws, those that meet the side's boundary of this walk first at some step
-  pub meeting-counts : (s : Draws) → NoWideBefore a E (length s) → (side : Side)
-      → (isOn side (mark F U s) ≡ true) ↔ ((t : ℕ) × Meets a E side t s)
-  unfolding NoWideBefore
-  meeting-counts s none side =
-      let on = mark-on F U (λ t. le-of-lt (order a threshold E spends t)) s side in (
-        λ e. let h = on .0 e in (h .0, record { meets = h .1; not-past = λ t l. none t (omega (arith, h .1 .to)) }),
-        λ h. on .1 (h .0, h .1 .meets),
-      )
+  on-sum : (side : Side) (n : ℕ) → chance a million n (λ s. isOn side (mark F U s)) ≡ settledOn side n
+  unfolding chance
+  on-sum side n = met-sum a (million - a) F U (isOn side) (open-off side) n
 
-bounds-more : (E : ℕ → ℕ) (n W s x y : ℕ) → x ≤ y → Bounds E n W s x → Bounds E n W s y
-bounds-more E n W s x y h b =
-    record { allowed = b .allowed; at-least = b .at-least; at-most = omega (arith, b .at-most, mul-le-mul-right (million ^ n) h) }
+  -- W is no more than the walk settles on the side if it goes on past the first wide step, and no less up to there
+  meeting-le : (side : Side) (n : ℕ) → meeting a E side n ≤ settledOn side n
+  unfolding meeting meets?
+  meeting-le side n = rw (← (on-sum side n)) (chance-le a million n _ _ (λ s l e. and-true (isOn side (mark F U s)) _ e .0))
 
--- the theorem of this crate
+  meeting-ge : (side : Side) (n : ℕ) → NoWideBefore a E n → settledOn side n ≤ meeting a E side n
+  unfolding meeting NoWideBefore
+  meeting-ge side n none =
+      rw (← (on-sum side n))
+      (chance-le a million n _ _ (λ s l e.
+      let h = mark-on F U orders s side .0 e in
+      meets-says s side .1 (h .0, record { meets = h .1; not-past = λ t k. none t (omega (arith, h .1 .to)) })))
+
+  -- in the finer form: one unit for each cell that was really rounded
+  pub chances-by-rounding : (side : Side) (n : ℕ) → NoWideBefore a E n → Bounds n (meeting a E side n) (spent side (walk a E n)) (roundedBy a E n)
+  chances-by-rounding side n none = record {
+    at-least = omega (arith, spent-ge side n, mul-le-mul-right M (meeting-le side n));
+    at-most = omega (arith, spent-le side n, mul-le-mul-right M (meeting-ge side n none));
+  }
+
+-- the theorems of this crate
+pub allowed-always : AllowedTheorem
+allowed-always a threshold E spends side n =
+    omega (
+      arith,
+      mul-le-mul-right M (meeting-le a threshold E spends side n),
+      spent-ge a threshold E spends side n,
+      mul-le-mul-right (million ^ n) (spent-fits a threshold E spends side n),
+    )
+
 pub chances : ChanceTheorem
 chances a threshold E spends side n none =
-    bounds-more E n (meeting a E side n) (spent side (walk a E n)) (roundedBy a E n) (wide * n)
-    (rounded-few a threshold E spends n (not-wide a threshold E spends n .0 none))
-    (chances-by-rounding a threshold E spends side n)
-
--- a test that passes less weighs less
-chance-le : (x y n : ℕ) (f g : Draws → Bool) → ((s : Draws) → length s ≡ n → f s ≡ true → g s ≡ true) → chance x y n f ≤ chance x y n g
-unfolding chance
-chance-le x y n f g h = strings-le n _ _ (λ s l. go (f s) (g s) (weight x (y - x) s) (h s l))
-  where
-    go : (p q : Bool) (w : ℕ) → (p ≡ true → q ≡ true) → only p w ≤ only q w
-    go true q w i = rw (i refl) (omega arith)
-    go false q w i = omega arith
-
-pub allowed-always : AllowedTheorem
-unfolding meeting
-allowed-always a threshold E spends side n test picks =
-    le-trans
-    (mul-le-mul-right M (chance-le a million n test (λ s. isOn side (mark (firstAt a E) (upperAt a E) s)) (λ s l e.
-    let h = picks s l e in
-    mark-on (firstAt a E) (upperAt a E) (λ t. le-of-lt (order a threshold E spends t)) s side .1 (h .0, h .1 .meets))))
-    (chances-by-rounding a threshold E spends side n .allowed)
+    let b = chances-by-rounding a threshold E spends side n none in
+    let few = rounded-few a threshold E spends n (not-wide a threshold E spends n .0 none) in
+    record { at-least = b .at-least; at-most = omega (arith, b .at-most, mul-le-mul-right (million ^ n) few) }

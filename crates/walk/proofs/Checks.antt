@@ -146,7 +146,7 @@ module _ (E : ℕ → ℕ) (n s : ℕ) (w : Walked) (words : List ℕ) (size : l
       omega (arith, checked h .fits, d)
 
   -- what a step asks, of a record that is not wide
-  pub steppable : (a : ℕ) → a ≤ million → IsSpending E → n < horizonLimit → isWide w ≡ false → isSound (E n) n s w words ≡ true
+  pub steppable : (a : ℕ) → a ≤ million → IsSpending E → n ≤ horizonLimit → isWide w ≡ false → isSound (E n) n s w words ≡ true
       → Steppable a (E (suc n)) w words
   unfolding rowOf
   steppable a threshold spends early thin h =

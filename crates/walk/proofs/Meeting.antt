@@ -9,7 +9,7 @@ use native.Mathlib.Omega.{arith}
 use lib.ListN.{length}
 use Rattle.walk.specs.declared.Mark.{Mark}
 use Rattle.walk.specs.declared.Mark.the-variants.{Open}
-use Rattle.walk.specs.Strings.{Draws, ones, count, Side, Upper, Lower, Reaches, MeetsFirst, judged, verdict, orElse, mark, settled, isOn}
+use Rattle.walk.specs.Strings.{Draws, ones, count, Side, Upper, Lower, Reaches, MeetsFirst, judged, verdict, orElse, mark, settled, isOn, lastStep}
 use Rattle.walk.proofs.Tests.{Le?, le, gt, test, clash}
 use Rattle.walk.proofs.Exact.{open-off}
 
@@ -49,6 +49,10 @@ on-side Upper Upper t e = refl
 on-side Upper Lower t e = clash (sym e)
 on-side Lower Upper t e = clash (sym e)
 on-side Lower Lower t e = refl
+
+pub last-settled : (side : Side) (t n : ℕ) → lastStep (settled side t) n ≡ t
+last-settled Upper t n = refl
+last-settled Lower t n = refl
 
 same-step : (side : Side) (t u : ℕ) → settled side t ≡ settled side u → t ≡ u
 same-step Upper t u e = cc

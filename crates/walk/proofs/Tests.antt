@@ -49,6 +49,10 @@ pub and-true : (x y : Bool) → (x && y) ≡ true → (x ≡ true) × (y ≡ tru
 and-true true y e = (refl, e)
 and-true false y e = clash (sym e)
 
+pub not-true : (x : Bool) → not x ≡ true → x ≡ false
+not-true true e = sym e
+not-true false e = refl
+
 -- ---- numbers behind a test
 
 pub only-zero : (b : Bool) → only b 0 ≡ 0
@@ -62,6 +66,10 @@ only-one false x = omega arith
 pub only-swap : (b : Bool) (x y : ℕ) → x * only b y ≡ only b x * y
 only-swap true x y = refl
 only-swap false x y = omega arith
+
+pub only-only : (b : Bool) (x : ℕ) → only b (only b x) ≡ only b x
+only-only true x = refl
+only-only false x = refl
 
 pub only-le : (b : Bool) (x : ℕ) → only b x ≤ x
 only-le true x = omega arith

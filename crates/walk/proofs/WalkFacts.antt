@@ -1,22 +1,26 @@
 -- The facts of 01: of one step from any sound row, and of the walk at every step. Assumes nothing.
-use Prim.Native.Nat.{ℕ, suc, _+_, _-_, _≤_, _<_}
+use mathlib.Core.Path.{_≡_, ap, _∙_}
+use mathlib.Core.Logic.{_⊎_, inl, inr}
+use Prim.Native.Nat.{ℕ, zero, suc, _+_, _-_, _≤_, _<_}
 use native.Mathlib.Omega.{arith}
 use lib.Dec.{le→leb}
 use lib.IntN.{pos, _-ℤ_}
 use lib.ListN.{getD}
 use lib.Signed.{_≤ℤ_, leZ-yes}
 use Rattle.walk.specs.Numbers.{le?, Smallest, Largest}
-use Rattle.walk.specs.Units.{M}
+use Rattle.walk.specs.Units.{M, million}
+use Rattle.walk.specs.Spending.{IsSpending}
 use Rattle.walk.specs.Walk.{below, lower, newMass, FitsUpper, FitsLower, absorbed, stepWalk, walk}
-use Rattle.walk.specs.Row.{byCount, rows}
+use Rattle.walk.specs.Row.{total, byCount, rows}
 use Rattle.walk.specs.Strings.{Upper, Lower}
-use Rattle.walk.specs.Facts.{StepTheorem, WalkTheorem}
+use Rattle.walk.specs.Facts.{asWalk, StepTheorem, massOf, WalkTheorem}
 use Rattle.walk.proofs.Tests.{only-le}
 use Rattle.walk.proofs.Lists.{all-getD}
+use Rattle.walk.proofs.Rounding.{mass-none}
 use Rattle.walk.proofs.Boundaries.{below-rises, apart-below}
 use Rattle.walk.proofs.RowSteps.{allowed-next, next-moves, next-sound, rows-sound, rows-move, rows-total, rows-small, rounded-few}
-use Rattle.walk.proofs.Agreement.{upper-exists, lower-exists, upper-is, lower-is, step-same, same, not-wide}
-use Rattle.walk.proofs.Chances.{walk-total, spent-fits}
+use Rattle.walk.proofs.Agreement.{at-off, at-live, upper-exists, lower-exists, upper-is, lower-is, step-same, same-as-walk, same, not-wide}
+use Rattle.walk.proofs.Chances.{spent-fits}
 
 pub step-facts : StepTheorem
 step-facts a threshold E spends n r s =
@@ -46,13 +50,29 @@ lower-next a E n h = lower-exists (suc n) (E (suc n)) (newMass a (walk a E n .ma
 far-enough : (u f : ℕ) → f < u → pos 2 ≤ℤ (pos u -ℤ below f)
 far-enough u f h = rw (apart-below u f (omega arith)) (leZ-yes (le→leb 2 (suc (u - f)) (omega arith)))
 
+-- live mass plus both spent masses, in both forms
+mass-total : (a : ℕ) → a ≤ million → (E : ℕ → ℕ) → IsSpending E → (n : ℕ) → massOf (walk a E n) ≡ total (rows a E n)
+unfolding asWalk
+mass-total a threshold E spends n =
+    ap massOf (same-as-walk (walk a E n) (rows a E n) (same a threshold E spends n))
+    ∙ ap (λ (x : ℕ). x + rows a E n .over + rows a E n .under) (at-live (rows a E n .first) (rows a E n .masses))
+
+-- masses at the counts from f on and below u make new ones at the counts from f to u only
+cells-off : (a : ℕ) (g : ℕ → ℕ) (f u : ℕ) → ((c : ℕ) → (c < f) ⊎ (u ≤ c) → g c ≡ 0) → (c : ℕ) → (c < f) ⊎ (u < c) → newMass a g c ≡ 0
+cells-off a g f u off zero (inl h) = rw (off 0 (inl h)) (mass-none a)
+cells-off a g f u off zero (inr h) = absurd (omega arith)
+cells-off a g f u off (suc c) (inl h) = rw (off (suc c) (inl h), off c (inl (omega arith))) (mass-none a)
+cells-off a g f u off (suc c) (inr h) = rw (off (suc c) (inr (omega arith)), off c (inr (omega arith))) (mass-none a)
+
 pub walk-facts : WalkTheorem
-unfolding lower byCount
+unfolding lower byCount asWalk
 walk-facts a threshold E spends n =
     let s = same a threshold E spends n in
     let s′ = same a threshold E spends (suc n) in
     let m = rows-move a threshold E spends n in
     let r = rows-sound a threshold E spends n in
+    let off : (c : ℕ) → (c < walk a E n .first) ⊎ (walk a E n .upper ≤ c) → walk a E n .mass c ≡ 0 =
+    rw (same-as-walk (walk a E n) (rows a E n) s) (at-off (rows a E n .first) (rows a E n .masses)) in
     record {
       same = s;
       upper-is = upper-next a E n (omega (arith, spent-fits a threshold E spends Upper n, spends .rises n));
@@ -62,13 +82,15 @@ walk-facts a threshold E spends n =
       upper-slow = omega (arith, s .upper-same, s′ .upper-same, m .upper-slow);
       lower-rises = below-rises (walk a E n .first) (walk a E (suc n) .first) (omega (arith, s .first-same, s′ .first-same, m .lower-rises));
       allowed = λ side. spent-fits a threshold E spends side n;
-      no-less = omega (arith, walk-total a threshold E spends n, r .sound .full);
+      no-less = omega (arith, mass-total a threshold E spends n, r .sound .full);
       no-more = λ none. omega (
         arith,
-        walk-total a threshold E spends n,
+        mass-total a threshold E spends n,
         rows-total a threshold E spends n,
         rounded-few a threshold E spends n (not-wide a threshold E spends n .0 none),
       );
+      off = off;
+      new-off = cells-off a (walk a E n .mass) (walk a E n .first) (walk a E n .upper) off;
       small = λ c. omega (
         arith,
         s .mass-same c,

@@ -1,11 +1,12 @@
 -- What is claimed of one step and of a walk (01, "Facts to be proved").
 use mathlib.Core.Path.{_≡_}
 use mathlib.Core.Bool.{true}
-use Prim.Native.Nat.{ℕ, suc, _+_, _*_, _≤_}
+use mathlib.Core.Logic.{_⊎_}
+use Prim.Native.Nat.{ℕ, suc, _+_, _*_, _≤_, _<_}
 use lib.IntN.{pos, _-ℤ_}
 use lib.ListN.{length}
 use lib.Signed.{_≤ℤ_}
-use Rattle.walk.specs.Numbers.{Smallest, Largest, sumTo, allUpTo}
+use Rattle.walk.specs.Numbers.{le?, only, Smallest, Largest, sumTo, allUpTo}
 use Rattle.walk.specs.Units.{M, million, wide}
 use Rattle.walk.specs.Spending.{IsSpending}
 use Rattle.walk.specs.Walk.{Walk, lower, newMass, FitsUpper, FitsLower, stepWalk, walk, NoWideBefore}
@@ -56,9 +57,9 @@ StepTheorem =
 
 -- ---- the walk
 
--- live mass plus both spent masses after n steps
-abbrev pub massOf : ℕ → Walk → ℕ
-massOf n w = sumTo (suc n) (w .mass) + w .over + w .under
+-- live mass plus both spent masses: the masses at the counts strictly between the boundaries, and the two
+abbrev pub massOf : Walk → ℕ
+massOf w = sumTo (w .upper) (λ c. only (le? (w .first) c) (w .mass c)) + w .over + w .under
 
 -- after step n
 pub record WalkFacts (a : ℕ) (E : ℕ → ℕ) (n : ℕ) : Type 0 where
@@ -71,8 +72,12 @@ pub record WalkFacts (a : ℕ) (E : ℕ → ℕ) (n : ℕ) : Type 0 where
   pub upper-slow : walk a E (suc n) .upper ≤ suc (walk a E n .upper)
   pub lower-rises : lower (walk a E n) ≤ℤ lower (walk a E (suc n))
   pub allowed : (side : Side) → spent side (walk a E n) ≤ E n
-  pub no-less : M ≤ massOf n (walk a E n)
-  pub no-more : NoWideBefore a E n → massOf n (walk a E n) ≤ M + wide * n
+  pub no-less : M ≤ massOf (walk a E n)
+  pub no-more : NoWideBefore a E n → massOf (walk a E n) ≤ M + wide * n
+  -- a count at or beyond a boundary is not live and has no mass
+  pub off : (c : ℕ) → (c < walk a E n .first) ⊎ (walk a E n .upper ≤ c) → walk a E n .mass c ≡ 0
+  -- a count that rule 1 does not name, before the first live one or past the upper boundary, gets no new mass
+  pub new-off : (c : ℕ) → (c < walk a E n .first) ⊎ (walk a E n .upper < c) → newMass a (walk a E n .mass) c ≡ 0
   pub small : (c : ℕ) → walk a E n .mass c ≤ M
 
 abbrev pub WalkTheorem : Type 0

@@ -1,6 +1,6 @@
 -- What refusal 11 asks of an open threshold's record and words, and what a step asks of them.
 use mathlib.Core.Path.{_≡_}
-use mathlib.Core.Bool.{Bool, true, false, _&&_}
+use mathlib.Core.Bool.{Bool, true, _&&_}
 use mathlib.Core.List.{List}
 use Prim.Native.Nat.{ℕ, suc, _+_, _≤_, _<_}
 use lib.IntN.{pos, negsuc, _-ℤ_}
@@ -34,7 +34,8 @@ module _ (e n s : ℕ) (w : Walked) where
       && (allUpTo massLimit (rowOf w words .masses)
       && le? M (total (rowOf w words)))
 
--- What a step with e to spend asks: all of it holds of a state that refusal 11 lets through and that is not wide (proofs/Checks).
+-- What a step with e to spend asks: all of it holds of a state that refusal 11 lets through after at most 50,000 draws, and that is not wide
+-- (proofs/Checks, `steppable`).
 pub record Steppable (a e : ℕ) (w : Walked) (words : List ℕ) : Type 0 where
   pub threshold : a ≤ million
   pub half : e + e < M

@@ -54,8 +54,8 @@ pub record MeetsFirst (first upper : ℕ → ℕ) (side : Side) (t : ℕ) (s : D
   pub reaches : Reaches side (first t) (upper t) (count s t)
   pub before : (i : ℕ) → 1 ≤ i → i < t → (first i ≤ count s i) × (count s i < upper i)
 
--- ---- the same as a test that computes: the mark of a string. proofs/Meeting shows that `mark` is Above t exactly when the string meets
--- the upper boundary first at step t, and AtMost t exactly when so the lower.
+-- ---- the same as a test that computes: the mark of a string. proofs/Meeting shows that between boundaries in order, `first` at most `upper`
+-- at every step, `mark` is Above t exactly when the string meets the upper boundary first at step t, and AtMost t exactly when so the lower.
 
 -- how a count stands at step t: over, at or over the upper boundary; under, at or under the lower one
 abbrev pub judged : ℕ → Bool → Bool → Mark
@@ -93,3 +93,9 @@ abbrev pub isOpen : Mark → Bool
 isOpen Open = true
 isOpen (Above t) = false
 isOpen (AtMost t) = false
+
+-- the last step walked, after n draws: an open threshold's is n, a settled one's the step where the draws first met a boundary
+abbrev pub lastStep : Mark → ℕ → ℕ
+lastStep Open n = n
+lastStep (Above t) n = t
+lastStep (AtMost t) n = t

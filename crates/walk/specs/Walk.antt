@@ -1,6 +1,8 @@
 -- The walk of one threshold a, as 01 has it: masses by count, boundaries by search. (01: bars; here boundaries.)
 use mathlib.Core.Path.{_≡_}
+use mathlib.Core.Bool.{Bool, true, not, _&&_}
 use Prim.Native.Nat.{ℕ, zero, suc, _+_, _≤_, _<_}
+use lib.Dec.{eqb}
 use lib.IntN.{ℤ, pos, negsuc}
 use Rattle.walk.specs.Numbers.{le?, lt?, between, only, sumTo, searchUp, searchDown}
 use Rattle.walk.specs.Units.{M, wide}
@@ -41,7 +43,8 @@ cellwise cell g c = cell (g c) (previous g c)
 abbrev pub newMass : ℕ → (ℕ → ℕ) → ℕ → ℕ
 newMass a g = cellwise (massUp a) g
 
--- of the masses at counts 0 to t: those at counts ≥ j; those at counts < f, which are the counts ≤ f - 1
+-- of the new masses of step t, which are 0 past count t (specs/Facts, `new-off`, `top`): those at counts ≥ j; those at counts < f, which are
+-- the counts ≤ f - 1
 unfoldable pub massFrom : ℕ → (ℕ → ℕ) → ℕ → ℕ
 massFrom t g j = sumTo (suc t) (λ c. only (le? j c) (g c))
 
@@ -100,6 +103,7 @@ Wide w = w .upper ≡ w .first + wide
 unfoldable pub NoWideBefore : ℕ → (ℕ → ℕ) → ℕ → Type 0
 NoWideBefore a E n = (t : ℕ) → t < n → ¬ (Wide (walk a E t))
 
--- t is the first wide step
-abbrev pub FirstWide : ℕ → (ℕ → ℕ) → ℕ → Type 0
-FirstWide a E t = Wide (walk a E t) × NoWideBefore a E t
+-- the same as a test that computes (proofs/Chances, `narrow-says`)
+unfoldable pub noWideBefore? : ℕ → (ℕ → ℕ) → ℕ → Bool
+noWideBefore? a E zero = true
+noWideBefore? a E (suc n) = noWideBefore? a E n && not (eqb (walk a E n .upper) (walk a E n .first + wide))
