@@ -1,22 +1,14 @@
 // The program's work on open files (01, "The program"): a plan, draws as they come, and one line.
 
 use crate::feeding::feed;
-use crate::line::line_of;
+use crate::line::last_line;
 use crate::line::refused_line;
 use bucket_test::Drawn;
 use bucket_test::Plan;
-use bucket_test::Report;
 use bucket_test::drawing::begin;
 use bucket_test::drawing::is_open;
-use bucket_test::drawing::report_on;
 use stored_plan::reading::read_plan;
-ghost use mathlib.Core.Path.{_≡_};
-ghost use Prim.Native.Nat.{_≤_};
-ghost use lib.ListN.{take};
 ghost use Rattle.io.specs.Counts.{Counts};
-ghost use Rattle.bucket_test.specs.Answers.{valuesOf};
-ghost use Rattle.bucket_test.specs.Draw.{report};
-ghost use Rattle.console.specs.Line.{lineOf};
 
 // Where a test stands, and whether it takes more.
 struct Turn {
@@ -57,23 +49,6 @@ fn take_all(p: Plan, d: Drawn, input: i32, words: &mut [u64]) -> Drawn {
         turns -= 1;
     }
     drawn
-}
-
-// The line of an outcome: its answer, and the interval of its state.
-pub fn last_line(p: Plan, d: Drawn, out: &mut [u8; 64]) -> usize
-    ensures { λ n. ⌜ Counts n (now (out .exit)) ⌝ }
-    ensures { λ n. ⌜
-        (n ≤ 64)
-        × (take n (now (out .exit)) ≡ lineOf (valuesOf (d .state) (record { answer = d .answer; low = report p (d .state) .low; high = report p (d .state) .high })))
-        ⌝ }
-{
-    let s = d.state;
-    let v = report_on(p, s);
-    let answer = d.answer;
-    let low = v.low;
-    let high = v.high;
-    let r = Report { answer, low, high };
-    line_of(s, r, out)
 }
 
 fn print_refused(output: i32, number: u32) {

@@ -3,7 +3,7 @@
 use bucket_test::drawing::begin;
 use bucket_test::drawing::draw;
 use bucket_test::drawing::draw_all;
-use console::program::last_line;
+use console::line::last_line;
 use stored_plan::reading::read_plan;
 
 fn trial(plan: &[u8], input: &[u8], words: &mut [u64]) {
