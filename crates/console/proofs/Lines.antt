@@ -1,28 +1,52 @@
--- One byte more of a line, and how many digits a number has. Assumes nothing.
-use mathlib.Core.Path.{_≡_, sym, ap, _∙_}
+-- Bytes put behind a text, and how many digits a number has. Assumes nothing.
+use mathlib.Core.Path.{_≡_, refl, sym, ap, _∙_}
 use mathlib.Core.Logic.{_⊎_, inl, inr}
 use mathlib.Core.Bool.{Bool, true, false}
-use mathlib.Core.List.{List, [], _∷_, _++_, append-assoc}
+use mathlib.Core.List.{List, _++_, append-assoc}
 use Prim.Native.Nat.{ℕ, zero, suc, _+_, _-_, _^_, _≤_, _<_}
 use native.Mathlib.Nat.{eq-or-lt-of-le, pow-le-pow-right}
-use native.Mathlib.Numerals.{add-one}
 use native.Mathlib.Omega.{arith}
-use lib.ListN.{length, take, getD, set}
-use lib.Seq.{take-suc, take-suc-set, length-take-le}
+use lib.ListN.{length, take, drop, length-append}
+use lib.Seq.{take-length, length-take-le, paste}
 use Rattle.io.specs.Digits.{digits, Fewest}
 use Rattle.walk.specs.Numbers.{le?, lt?, searchUp}
 use Rattle.walk.proofs.Tests.{Le?, le, gt, test, le?-complete, le?-fails}
-use Rattle.bucket_test.specs.Answers.{Values, wordOf, refusalOf, valuesOf}
+use Rattle.stored_plan.specs.Little.{putAt}
+use Rattle.stored_plan.proofs.Putting.{then, put-first}
+use Rattle.bucket_test.specs.Answers.{Values, valuesOf}
 use Rattle.bucket_test.specs.declared.State.{State}
+use Rattle.bucket_test.specs.declared.Report.{Report}
 use Rattle.bucket_test.specs.declared.Answer.{Answer}
 use Rattle.bucket_test.specs.declared.Answer.the-variants.{Open, Decided, Crossed, Wide, Spent, Refused}
-use Rattle.console.specs.Line.{places, decimal, lineOf}
+use Rattle.console.specs.Line.{places, decimal, valuesLine, lineBy, lineOf, Puts, Holds}
 
-pub put-more : (out₀ out bytes : List ℕ) (at i : ℕ) → at + i < length out → i < length bytes → take (at + i) out ≡ take at out₀ ++ take i bytes
-    → take (at + (i + 1)) (set out (at + i) (getD bytes i 0)) ≡ take at out₀ ++ take (i + 1) bytes
-put-more out₀ out bytes at i h l e =
-    let s : at + (i + 1) ≡ suc (at + i) = omega arith in
-    rw (s, take-suc-set out (at + i) (getD bytes i 0) h, e, append-assoc, add-one i, take-suc bytes i 0 l)
+-- a copy of all the bytes
+pub copied : (bytes before after : List ℕ) (at i : ℕ) → i ≡ length bytes → after ≡ paste before at bytes i
+    → Puts bytes at (at + length bytes) before after
+unfolding putAt
+copied bytes before after at i h e =
+    record { behind = refl; whole = e ∙ rw (h, take-length) (append-assoc (take at before) bytes (drop (at + length bytes) before)) }
+
+-- bytes put behind bytes
+pub puts-more : {xs ys before between after : List ℕ} {at m next : ℕ} → at ≤ length before
+    → Puts xs at m before between → Puts ys m next between after → Puts (xs ++ ys) at next before after
+puts-more {xs} {ys} {before} {between} {after} {at} {m} h p q = record {
+  behind = omega (arith, p .behind, q .behind, length-append xs ys);
+  whole = then at xs ys before between after m (p .whole) (q .whole) h (p .behind);
+}
+
+-- bytes put at the start, and bytes put behind a text
+pub begins : {bytes before after : List ℕ} {next : ℕ} → Puts bytes 0 next before after → Holds bytes next before after
+begins {bytes} {before} {after} {next} p =
+    let size : next ≡ length bytes = omega (arith, p .behind) in
+    record { size = size; whole = p .whole ∙ rw size (put-first bytes before) }
+
+pub holds-more : {text bytes before between after : List ℕ} {at next : ℕ} → Holds text at before between → Puts bytes at next between after
+    → Holds (text ++ bytes) next before after
+holds-more {text} {bytes} {before} {between} {after} {at} {next} h p =
+    let first : Puts text 0 at before between =
+    record { behind = omega (arith, h .size); whole = h .whole ∙ rw (h .size) (sym (put-first text before)) } in
+    begins (puts-more (omega arith) first p)
 
 -- a search finds the first that passes
 search-only : (n j r : ℕ) (p : ℕ → Bool) → j ≤ r → r ≤ j + n → (r < j + n → p r ≡ true) → ((i : ℕ) → j ≤ i → i < r → p i ≡ false)
@@ -58,24 +82,15 @@ module _ (n r : ℕ) (f : Fewest 10 1 n r) where
   decimal-is text h k e =
       (omega (arith, length-take-le r text k, fewest-le 10 (omega arith) h), rw e (ap (λ (m : ℕ). digits 10 m n) (fewest-places (omega arith))))
 
--- two runs of bytes, one behind the other
-pub twice : (k l a b c m n : List ℕ) → k ≡ l → m ≡ k ++ a → b ≡ c → n ≡ m ++ b → n ≡ l ++ a ++ c
-twice k l a b c m n d e f g = g ∙ rw (e, d, f)
-
--- the line by its parts: six values where nothing is refused; a refusal and its number
-pub six-values : (v : Values) (bucket : ℕ) (l0 l1 l2 l3 l4 l5 l6 : List ℕ) → 0 ≡ v .number → bucket ≡ v .bucket → l0 ≡ v .word
-    → l1 ≡ l0 ++ (32 ∷ decimal bucket) → l2 ≡ l1 ++ (32 ∷ decimal (v .n)) → l3 ≡ l2 ++ (32 ∷ decimal (v .ones)) → l4 ≡ l3 ++ (32 ∷ decimal (v .low))
-    → l5 ≡ l4 ++ (32 ∷ decimal (v .high)) → l6 ≡ l5 ++ (10 ∷ []) → l6 ≡ lineOf v
+-- an answer that is no refusal prints its values
+pub values-line : (s : State) (r : Report) → ((number : ℕ) → r .answer ≡ Refused number → ⊥) → lineOf s r ≡ valuesLine (valuesOf s r)
 unfolding lineOf
-six-values v bucket l0 l1 l2 l3 l4 l5 l6 z b e0 e1 e2 e3 e4 e5 e6 = rw (← z, e6, e5, e4, e3, e2, e1, e0, b)
-
-pub refusal-line : (s : State) (low high number : ℕ) (a : Answer) → number ≡ refusalOf a → 0 < number
-    → wordOf (Refused number) ++ (32 ∷ decimal number) ++ (10 ∷ []) ≡ lineOf (valuesOf s (record { answer = a; low = low; high = high }))
-unfolding lineOf
-refusal-line s low high number (Refused zero) e l = absurd (omega arith)
-refusal-line s low high number (Refused (suc x)) e l = rw e
-refusal-line s low high number Open e l = absurd (omega arith)
-refusal-line s low high number (Decided b) e l = absurd (omega arith)
-refusal-line s low high number Crossed e l = absurd (omega arith)
-refusal-line s low high number Wide e l = absurd (omega arith)
-refusal-line s low high number Spent e l = absurd (omega arith)
+values-line s r ne = go (r .answer) (valuesOf s r) ne
+  where
+    go : (a : Answer) (v : Values) → ((number : ℕ) → a ≡ Refused number → ⊥) → lineBy a v ≡ valuesLine v
+    go Open v f = refl
+    go (Decided b) v f = refl
+    go Crossed v f = refl
+    go Wide v f = refl
+    go Spent v f = refl
+    go (Refused number) v f = absurd (f number refl)

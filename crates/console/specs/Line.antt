@@ -1,9 +1,19 @@
 -- The line that is printed (01, "The program").
+use mathlib.Core.Path.{_≡_}
 use mathlib.Core.List.{List, [], _∷_, _++_}
-use Prim.Native.Nat.{ℕ, zero, suc, _^_}
+use Prim.Native.Nat.{ℕ, _+_, _^_}
+use lib.ListN.{length, drop}
 use Rattle.io.specs.Digits.{digits}
 use Rattle.walk.specs.Numbers.{lt?, searchUp}
-use Rattle.bucket_test.specs.Answers.{Values}
+use Rattle.bucket_test.specs.Answers.{Values, wordOf, valuesOf}
+use Rattle.bucket_test.specs.Draw.{report}
+use Rattle.bucket_test.specs.declared.State.{State}
+use Rattle.bucket_test.specs.declared.Plan.{Plan}
+use Rattle.bucket_test.specs.declared.Drawn.{Drawn}
+use Rattle.bucket_test.specs.declared.Report.{Report}
+use Rattle.bucket_test.specs.declared.Answer.{Answer}
+use Rattle.bucket_test.specs.declared.Answer.the-variants.{Open, Decided, Crossed, Wide, Spent, Refused}
+use Rattle.stored_plan.specs.Little.{putAt}
 
 -- a number below 10^20 in decimal, in ASCII, with no zero in front
 unfoldable pub places : ℕ → ℕ
@@ -12,9 +22,13 @@ places n = searchUp 19 1 (λ k. lt? n (10 ^ k))
 unfoldable pub decimal : ℕ → List ℕ
 decimal n = digits 10 (places n) n
 
--- the answer, bucket number, n, S, low, high; or `refused` and the number; a newline
-abbrev pub lineBy : ℕ → Values → List ℕ
-lineBy zero v =
+-- `refused`, the number, a newline
+unfoldable pub refusedLine : ℕ → List ℕ
+refusedLine number = wordOf (Refused number) ++ (32 ∷ decimal number) ++ (10 ∷ [])
+
+-- the answer, bucket number, n, S, low, high, a newline
+unfoldable pub valuesLine : Values → List ℕ
+valuesLine v =
     v .word
     ++ (32 ∷ decimal (v .bucket))
     ++ (32 ∷ decimal (v .n))
@@ -22,7 +36,31 @@ lineBy zero v =
     ++ (32 ∷ decimal (v .low))
     ++ (32 ∷ decimal (v .high))
     ++ (10 ∷ [])
-lineBy (suc r) v = v .word ++ (32 ∷ decimal (suc r)) ++ (10 ∷ [])
 
-unfoldable pub lineOf : Values → List ℕ
-lineOf v = lineBy (v .number) v
+abbrev pub lineBy : Answer → Values → List ℕ
+lineBy (Refused r) v = refusedLine (v .number)
+lineBy Open v = valuesLine v
+lineBy (Decided b) v = valuesLine v
+lineBy Crossed v = valuesLine v
+lineBy Wide v = valuesLine v
+lineBy Spent v = valuesLine v
+
+-- the line of a report on a state
+unfoldable pub lineOf : State → Report → List ℕ
+lineOf s r = lineBy (r .answer) (valuesOf s r)
+
+-- the line of an outcome: its answer, and n, S and interval of its state
+unfoldable pub lineAfter : Plan → Drawn → List ℕ
+lineAfter p d = lineOf (d .state) (record { answer = d .answer; low = report p (d .state) .low; high = report p (d .state) .high })
+
+-- ---- the buffer of a line, every byte of it
+
+-- bytes put at a place, and the place behind them
+pub record Puts (bytes : List ℕ) (at next : ℕ) (before after : List ℕ) : Type 0 where
+  pub behind : next ≡ at + length bytes
+  pub whole : after ≡ putAt at bytes before
+
+-- a text of n bytes at the start, and behind it what stood there before
+pub record Holds (text : List ℕ) (n : ℕ) (before after : List ℕ) : Type 0 where
+  pub size : n ≡ length text
+  pub whole : after ≡ text ++ drop n before

@@ -1,14 +1,54 @@
--- The program between what is read and what is printed (01, "The program"). Which characters the system hands over no contract can say: the
--- claims are of some text.
+-- The program between what is read and what is printed (01, "The program"). Which bytes the system hands over no contract can say: the
+-- claims are of some stored bytes and some text.
 use mathlib.Core.Path.{_≡_}
-use mathlib.Core.List.{List}
-use Prim.Native.Nat.{ℕ}
-use Rattle.bucket_test.specs.Draw.{Outcome, outcomeOf, drawnOn}
+use mathlib.Core.Bool.{Bool, true, false}
+use mathlib.Core.List.{List, _++_}
+use Prim.Native.Nat.{ℕ, zero, suc, _*_, _≤_}
+use lib.ListN.{length, take, drop}
+use Rattle.walk.specs.Numbers.{le?}
+use Rattle.walk.specs.Units.{wide}
+use Rattle.bucket_test.specs.Draw.{Outcome, drawnOf, outcomeOf, begun, drawnOn}
 use Rattle.bucket_test.specs.declared.Plan.{Plan}
 use Rattle.bucket_test.specs.declared.Drawn.{Drawn}
+use Rattle.stored_plan.specs.Reading.{decoded}
 use Rattle.console.specs.Input.{drawsOf}
+use Rattle.console.specs.Line.{refusedLine, lineAfter, Holds}
 
 -- d and words are what the test o comes to when it is fed some text
 pub record Taken (p : Plan) (o : Outcome) (d : Drawn) (words : List ℕ) : Type 0 where
   pub text : List ℕ
   pub outcome : outcomeOf d words ≡ drawnOn p o (drawsOf text)
+
+-- what is printed, and the lent words then
+pub record Printed : Type 0 where
+  pub line : List ℕ
+  pub words : List ℕ
+
+-- a test on these words, from its beginning over a text
+unfoldable pub played : Plan → List ℕ → List ℕ → Printed
+played p words text = let o = drawnOn p (begun p words) (drawsOf text) in record { line = lineAfter p (drawnOf o); words = o .words }
+
+-- .. on the first 769 words for each threshold; 8 where there are fewer
+abbrev pub lentBy : Bool → Plan → List ℕ → List ℕ → Printed
+lentBy true p words text = let r = played p (take (wide * p .count) words) text in record { line = r .line; words = r .words ++ drop (wide * p .count) words }
+lentBy false p words text = record { line = refusedLine 8; words = words }
+
+abbrev pub servedBy : ℕ → Plan → List ℕ → List ℕ → Printed
+servedBy zero p words text = lentBy (le? (wide * p .count) (length words)) p words text
+servedBy (suc r) p words text = record { line = refusedLine (suc r); words = words }
+
+-- the program on a stored plan, lent words and a text
+unfoldable pub served : List ℕ → List ℕ → List ℕ → Printed
+served stored words text = servedBy (decoded stored .refusal) (decoded stored .plan) words text
+
+-- the buffer holds a line of n bytes, and these are the words, for some text
+pub record Prints (printed : List ℕ → Printed) (n : ℕ) (words before after : List ℕ) : Type 0 where
+  pub text : List ℕ
+  pub line-is : Holds (printed text .line) n before after
+  pub words-are : words ≡ printed text .words
+
+-- .. and some stored bytes, 265 at most
+pub record Ran (n : ℕ) (words words′ before after : List ℕ) : Type 0 where
+  pub stored : List ℕ
+  pub few : length stored ≤ 265
+  pub prints : Prints (served stored words) n words′ before after

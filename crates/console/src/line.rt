@@ -1,23 +1,23 @@
 // The line that is printed (01, "The program").
 
 use bucket_test::Answer;
+use bucket_test::Drawn;
+use bucket_test::Plan;
 use bucket_test::Report;
 use bucket_test::State;
+use bucket_test::drawing::report_on;
 ghost use mathlib.Core.Path.{_≡_};
-ghost use mathlib.Core.List.{[], _∷_, _++_};
+ghost use mathlib.Core.List.{_∷_};
 ghost use Prim.Native.Nat.{_+_, _≤_};
-ghost use lib.ListN.{length, take};
+ghost use lib.ListN.{length};
 ghost use Rattle.io.specs.Counts.{Counts};
-ghost use Rattle.bucket_test.specs.Answers.{wordOf, bucketOf, refusalOf, valuesOf};
-ghost use Rattle.console.specs.Line.{decimal, lineOf};
+ghost use Rattle.bucket_test.specs.Answers.{wordOf, bucketOf};
+ghost use Rattle.console.specs.Line.{decimal, refusedLine, lineOf, lineAfter, Puts, Holds};
 
-// Puts bytes at a place of the line, behind what stands before it, and answers the next place. For this crate only.
+// Puts bytes at a place of the line and answers the next place. For this crate only.
 fn put(out: &mut [u8], at: usize, bytes: &[u8]) -> usize
     requires { ⌜ at + length (now bytes) ≤ length (now out) ⌝ }
-    ensures { λ r. ⌜
-        (r ≡ at + length (now (bytes .entry)))
-        × (take r (now (out .exit)) ≡ take at (now (out .entry)) ++ now (bytes .entry))
-        ⌝ }
+    ensures { λ r. ⌜ Puts (now (bytes .entry)) at r (now (out .entry)) (now (out .exit)) ⌝ }
 {
     let mut i = 0;
     while i < bytes.len() {
@@ -30,10 +30,7 @@ fn put(out: &mut [u8], at: usize, bytes: &[u8]) -> usize
 // A space, and the number in decimal. For this crate only.
 fn put_number(out: &mut [u8], at: usize, number: u32) -> usize
     requires { ⌜ at + 11 ≤ length (now out) ⌝ }
-    ensures { λ r. ⌜
-        (r ≤ at + 11)
-        × (take r (now (out .exit)) ≡ take at (now (out .entry)) ++ (32 ∷ decimal number))
-        ⌝ }
+    ensures { λ r. ⌜ (r ≤ at + 11) × Puts (32 ∷ decimal number) at r (now (out .entry)) (now (out .exit)) ⌝ }
 {
     let mut text = [0u8; 20];
     let k = io::decimal(number as u64, &mut text);
@@ -44,7 +41,7 @@ fn put_number(out: &mut [u8], at: usize, number: u32) -> usize
 // The word of an answer begins the line. For this crate only.
 fn put_word(out: &mut [u8], a: Answer) -> usize
     requires { ⌜ 7 ≤ length (now out) ⌝ }
-    ensures { λ r. ⌜ (r ≤ 7) × (take r (now (out .exit)) ≡ wordOf a) ⌝ }
+    ensures { λ r. ⌜ (r ≤ 7) × Holds (wordOf a) r (now (out .entry)) (now (out .exit)) ⌝ }
 {
     match a {
         Answer::Open => put(out, 0, b"open"),
@@ -53,20 +50,6 @@ fn put_word(out: &mut [u8], a: Answer) -> usize
         Answer::Wide => put(out, 0, b"wide"),
         Answer::Spent => put(out, 0, b"spent"),
         Answer::Refused(_) => put(out, 0, b"refused"),
-    }
-}
-
-// The number of a refusal, 0 where there is none.
-fn refusal_of(a: Answer) -> u32
-    ensures { λ r. ⌜ r ≡ refusalOf a ⌝ }
-{
-    match a {
-        Answer::Open => 0,
-        Answer::Decided(_) => 0,
-        Answer::Crossed => 0,
-        Answer::Wide => 0,
-        Answer::Spent => 0,
-        Answer::Refused(number) => number,
     }
 }
 
@@ -87,7 +70,7 @@ fn bucket_of(a: Answer) -> u32
 // `refused`, the number, and a newline.
 pub fn refused_line(number: u32, out: &mut [u8; 64]) -> usize
     ensures { λ r. ⌜ Counts r (now (out .exit)) ⌝ }
-    ensures { λ r. ⌜ (r ≤ 64) × (take r (now (out .exit)) ≡ wordOf (Answer.Refused number) ++ (32 ∷ decimal number) ++ (10 ∷ [])) ⌝ }
+    ensures { λ r. ⌜ (r ≤ 64) × Holds (refusedLine number) r (now (out .entry)) (now (out .exit)) ⌝ }
 {
     let a = Answer::Refused(number);
     let at = put_word(out, a);
@@ -98,11 +81,10 @@ pub fn refused_line(number: u32, out: &mut [u8; 64]) -> usize
 // The line of a report on a state, of any values.
 pub fn line_of(s: State, r: Report, out: &mut [u8; 64]) -> usize
     ensures { λ n. ⌜ Counts n (now (out .exit)) ⌝ }
-    ensures { λ n. ⌜ (n ≤ 64) × (take n (now (out .exit)) ≡ lineOf (valuesOf s r)) ⌝ }
+    ensures { λ n. ⌜ (n ≤ 64) × Holds (lineOf s r) n (now (out .entry)) (now (out .exit)) ⌝ }
 {
     let a = r.answer;
-    let number = refusal_of(a);
-    if number > 0 {
+    if let Answer::Refused(number) = a {
         return refused_line(number, out);
     }
     let bucket = bucket_of(a);
@@ -113,4 +95,18 @@ pub fn line_of(s: State, r: Report, out: &mut [u8; 64]) -> usize
     let at4 = put_number(out, at3, r.low);
     let at5 = put_number(out, at4, r.high);
     put(out, at5, b"\n")
+}
+
+// The line of an outcome: its answer, and n, S and interval of its state.
+pub fn last_line(p: Plan, d: Drawn, out: &mut [u8; 64]) -> usize
+    ensures { λ n. ⌜ Counts n (now (out .exit)) ⌝ }
+    ensures { λ n. ⌜ (n ≤ 64) × Holds (lineAfter p d) n (now (out .entry)) (now (out .exit)) ⌝ }
+{
+    let s = d.state;
+    let v = report_on(p, s);
+    let answer = d.answer;
+    let low = v.low;
+    let high = v.high;
+    let r = Report { answer, low, high };
+    line_of(s, r, out)
 }

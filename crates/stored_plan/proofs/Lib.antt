@@ -1,6 +1,6 @@
 -- Little-endian numbers, and bytes put into bytes.
 pub mod LittleLaws
-mod Putting
+pub mod Putting
 -- The form of a plan, what reading and writing refuse, and the fields that reading takes.
 pub mod FormLaws
 mod Refusals

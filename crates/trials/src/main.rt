@@ -3,12 +3,14 @@
 use bucket_test::drawing::begin;
 use bucket_test::drawing::draw;
 use bucket_test::drawing::draw_all;
-use console::program::last_line;
+use console::line::last_line;
 use stored_plan::reading::read_plan;
 
 fn trial(plan: &[u8], input: &[u8], words: &mut [u64]) {
     let fd = os::open_read(input);
-    console::program::run(plan, fd, libc::STDOUT_FILENO, words);
+    let mut line = [0u8; 64];
+    let n = console::program::run(plan, fd, words, &mut line);
+    io::write_all(libc::STDOUT_FILENO, &line[..n]);
     if 0 <= fd {
         libc::close(fd);
     }
@@ -24,9 +26,8 @@ fn after_the_end(d: u8) {
     let p = got.plan;
     let mut words = [0u64; 769];
     let begun = begin(p, &mut words);
-    let first = begun.state;
     let ones = [1u8; 5];
-    let ended = draw_all(p, first, &mut words, &ones);
+    let ended = draw_all(p, begun, &mut words, &ones);
     let last = ended.state;
     let again = draw(p, last, &mut words, d);
     let mut out = [0u8; 64];

@@ -1,24 +1,23 @@
--- What was put so far stands behind what stood there.
+-- After i turns the first i bytes are copied, and nothing else is changed.
 use mathlib.Core.Path.{_≡_, refl}
-use mathlib.Core.List.{_++_, append-nil}
-use Prim.Native.Nat.{_+_, _-_, _≤_}
-use native.Mathlib.Nat.{add-zero}
+use Prim.Native.Nat.{_-_, _≤_}
+use native.Mathlib.Numerals.{add-one}
 use native.Mathlib.Omega.{arith}
 use borrow.Author.Needs.{needs}
-use lib.ListN.{length, take, length-set}
-use lib.Seq.{take-length}
-use Rattle.console.proofs.Lines.{put-more}
+use lib.ListN.{length, length-set}
+use lib.Seq.{paste, paste-zero, paste-suc}
+use Rattle.console.proofs.Lines.{copied}
 use Rattle.console.proofs.line.put.Statement.{statement}
 use Rattle.console.proofs.line.put.Tie as tie
 
 abbrev Inv-loop : tie.InvT-loop
-Inv-loop out₀ at bytes i₀ out i = (i ≤ length bytes) × (length out ≡ length out₀) × (take (at + i) out ≡ take at out₀ ++ take i bytes)
+Inv-loop out₀ at bytes i₀ out i = (i ≤ length bytes) × (length out ≡ length out₀) × (out ≡ paste out₀ at bytes i)
 
 abbrev μ-loop : tie.MeasureT-loop
 μ-loop out₀ at bytes i₀ out i = length bytes - i
 
 loop-holds : tie.Need-loop-holds Inv-loop μ-loop
-loop-holds c = (search needs, refl, rw (add-zero, append-nil))
+loop-holds c = let a = c .args in (search needs, refl, paste-zero (a .out .now) (a .at) (a .bytes .now))
 
 shared-slice-read-out : tie.Need-shared-slice-read-out Inv-loop μ-loop
 shared-slice-read-out c = search needs
@@ -39,7 +38,8 @@ loop-again : tie.Need-loop-again Inv-loop μ-loop
 loop-again c =
     let l = c .before .before .loop in
     let a = c .before .before .before .args in
-    (omega arith, simp length-set (omega arith), put-more (a .out .now) (l .out) (a .bytes .now) (a .at) (l .i) (omega arith) (omega arith) (l .inv .2))
+    let more = paste-suc (a .out .now) (a .at) (a .bytes .now) (l .i) 0 (omega arith) (omega arith) in
+    (omega arith, simp length-set (omega arith), rw (l .inv .2, add-one) more)
 
 add-result : tie.Need-add-result Inv-loop μ-loop
 add-result c = search needs
@@ -50,9 +50,8 @@ same-length c = search needs
 returns : tie.Need-returns Inv-loop μ-loop
 returns c =
     let l = c .before .loop in
-    let b = c .before .before .args .bytes .now in
-    let e : l .i ≡ length b = omega arith in
-    (refl, rw (e, take-length) at (l .inv .2))
+    let a = c .before .before .args in
+    copied (a .bytes .now) (a .out .now) (l .out) (a .at) (l .i) (omega arith) (l .inv .2)
 
 pub put-spec : {M : Type 1} → statement M
 put-spec =

@@ -1,11 +1,7 @@
 -- The digits that `io::decimal` gives are those of the number, and at most ten.
-use mathlib.Core.Path.{refl, _∙_}
-use mathlib.Core.List.{[], _∷_, append-assoc}
 use native.Mathlib.Omega.{arith}
 use borrow.Author.Needs.{needs}
-use lib.ListN.{take}
-use Rattle.console.specs.Line.{decimal}
-use Rattle.console.proofs.Lines.{decimal-is, twice}
+use Rattle.console.proofs.Lines.{puts-more, decimal-is}
 use Rattle.console.proofs.line.put_number.Statement.{statement}
 use Rattle.console.proofs.line.put_number.Tie as tie
 
@@ -29,7 +25,7 @@ put-requires-2 c κs =
     let d = c .before .before .before .before .before .before .before .decimal in
     let a = c .before .before .before .before .before .before .before .before .before .before .args in
     let e = decimal-is (a .number) (d .result) (d .ensures .1 .0) (d .last .1 .0) (omega arith) (omega arith) (d .ensures .1 .1) in
-    omega (arith, e .0, c .before .before .before .before .put .ensures)
+    omega (arith, e .0, c .before .before .before .before .put .ensures .behind)
 
 same-length : tie.Need-same-length
 same-length c = search needs
@@ -39,9 +35,9 @@ returns c =
     let d = c .before .before .before .before .before .before .before .before .before .before .decimal in
     let a = c .before .before .before .before .before .before .before .before .before .before .before .before .before .args in
     let e = decimal-is (a .number) (d .result) (d .ensures .1 .0) (d .last .1 .0) (omega arith) (omega arith) (d .ensures .1 .1) in
-    let p = c .before .before .before .before .before .before .before .put in
+    let p = c .before .before .before .before .before .before .before .put .ensures in
     let q = c .before .before .put2 .ensures in
-    (omega (arith, e .0, p .ensures .0, q .0), twice (take (a .at) (a .out .now)) (take (a .at) (a .out .now)) (32 ∷ []) (take (d .result) (d .last .1 .0)) (decimal (a .number)) (take (p .result) (p .last .0)) _ refl (p .ensures .1) (e .1) (q .1) ∙ append-assoc (take (a .at) (a .out .now)) (32 ∷ []) (decimal (a .number)))
+    (omega (arith, e .0, p .behind, q .behind), rw (e .1) at (puts-more (omega arith) p q))
 
 pub put-number-spec : {M : Type 1} → statement M
 put-number-spec =

@@ -1,6 +1,7 @@
 -- By cases on the answer, whose word is put.
 use native.Mathlib.Omega.{arith}
 use borrow.Author.Needs.{needs}
+use Rattle.console.proofs.Lines.{begins}
 use Rattle.console.proofs.line.put_word.Statement.{statement}
 use Rattle.console.proofs.line.put_word.Tie as tie
 
@@ -62,37 +63,37 @@ same-length : tie.Need-same-length
 same-length c = search needs
 
 returns : tie.Need-returns
-returns c = rw (c .before .before .before .before .before .enum-told .given .1) (omega arith, c .before .before .put .ensures .1)
+returns c = rw (c .before .before .before .before .before .enum-told .given .1) (omega arith, begins (c .before .before .put .ensures))
 
 same-length-2 : tie.Need-same-length-2
 same-length-2 c = search needs
 
 returns-2 : tie.Need-returns-2
-returns-2 c = rw (c .before .before .before .before .before .enum-told2 .given .1) (omega arith, c .before .before .put2 .ensures .1)
+returns-2 c = rw (c .before .before .before .before .before .enum-told2 .given .1) (omega arith, begins (c .before .before .put2 .ensures))
 
 same-length-3 : tie.Need-same-length-3
 same-length-3 c = search needs
 
 returns-3 : tie.Need-returns-3
-returns-3 c = rw (c .before .before .before .before .before .enum-told3 .given .1) (omega arith, c .before .before .put3 .ensures .1)
+returns-3 c = rw (c .before .before .before .before .before .enum-told3 .given .1) (omega arith, begins (c .before .before .put3 .ensures))
 
 same-length-4 : tie.Need-same-length-4
 same-length-4 c = search needs
 
 returns-4 : tie.Need-returns-4
-returns-4 c = rw (c .before .before .before .before .before .enum-told4 .given .1) (omega arith, c .before .before .put4 .ensures .1)
+returns-4 c = rw (c .before .before .before .before .before .enum-told4 .given .1) (omega arith, begins (c .before .before .put4 .ensures))
 
 same-length-5 : tie.Need-same-length-5
 same-length-5 c = search needs
 
 returns-5 : tie.Need-returns-5
-returns-5 c = rw (c .before .before .before .before .before .enum-told5 .given .1) (omega arith, c .before .before .put5 .ensures .1)
+returns-5 c = rw (c .before .before .before .before .before .enum-told5 .given .1) (omega arith, begins (c .before .before .put5 .ensures))
 
 same-length-6 : tie.Need-same-length-6
 same-length-6 c = search needs
 
 returns-6 : tie.Need-returns-6
-returns-6 c = rw (c .before .before .before .before .before .enum-told6 .given .1) (omega arith, c .before .before .put6 .ensures .1)
+returns-6 c = rw (c .before .before .before .before .before .enum-told6 .given .1) (omega arith, begins (c .before .before .put6 .ensures))
 
 pub put-word-spec : {M : Type 1} → statement M
 put-word-spec =

@@ -1,11 +1,12 @@
 -- The word, the number and the newline, one behind the other.
-use mathlib.Core.Path.{refl, sym}
+use mathlib.Core.Path.{sym}
 use Prim.Native.Nat.{_≤_}
 use native.Mathlib.Omega.{arith}
 use borrow.Author.Needs.{needs}
 use lib.ListN.{length}
 use lib.Seq.{length-take-le}
-use Rattle.console.proofs.Lines.{twice}
+use Rattle.console.specs.Line.{refusedLine}
+use Rattle.console.proofs.Lines.{holds-more}
 use Rattle.console.proofs.line.refused_line.Statement.{statement}
 use Rattle.console.proofs.line.refused_line.Tie as tie
 
@@ -22,9 +23,13 @@ put-requires : tie.Need-put-requires
 put-requires c κs = search needs
 
 returns : tie.Need-returns
+unfolding refusedLine
 returns c =
+    let w = c .before .before .before .before .before .put-word .ensures in
+    let p = c .before .before .before .put-number .ensures in
+    let q = c .put .ensures in
     let k : c .put .result ≤ length (c .put .last .0) = omega arith in
-    ((k, sym (length-take-le _ _ k)), (omega (arith, c .put .ensures .0, c .before .before .before .put-number .ensures .0, c .before .before .before .before .before .put-word .ensures .0), twice _ _ _ _ _ _ _ (c .before .before .before .before .before .put-word .ensures .1) (c .before .before .before .put-number .ensures .1) refl (c .put .ensures .1)))
+    ((k, sym (length-take-le _ _ k)), (omega (arith, w .0, p .0, q .behind), holds-more (holds-more (w .1) (p .1)) q))
 
 pub refused-line-spec : {M : Type 1} → statement M
 refused-line-spec =
