@@ -1,3 +1,4 @@
 pub mod Lines
 pub mod Characters
 pub mod Chunks
+pub mod Programs
