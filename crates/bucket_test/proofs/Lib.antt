@@ -15,3 +15,5 @@ mod Trials
 mod AnsweringLaws
 mod TurningLaws
 mod DrawingLaws
+-- A draw to any state that passes refusal 11.
+pub mod OneStep
