@@ -68,7 +68,7 @@ module _ (p : Plan) (s : State) (ws : List ℕ) (good : planRefusal p ≡ 0) (fi
   unfolding stateSound
   ones-fit = le?-sound (s .ones) (s .n) (and-true (le? (s .ones) (s .n)) _ (and-true (le? (s .n) (p .horizon)) _ sound .1) .0)
 
-  sound-at : (i : ℕ) → i < p .count → recordSound (spendingOf p i (s .n)) (s .n) (s .ones) (recordAt s i .mark) (recordAt s i) (partAt i ws) ≡ true
+  pub sound-at : (i : ℕ) → i < p .count → recordSound (spendingOf p i (s .n)) (s .n) (s .ones) (recordAt s i .mark) (recordAt s i) (partAt i ws) ≡ true
   unfolding stateSound
   sound-at = all-reads _ (p .count) .0 (and-true (le? (s .ones) (s .n)) _ (and-true (le? (s .n) (p .horizon)) _ sound .1) .1)
 
@@ -76,13 +76,16 @@ module _ (p : Plan) (s : State) (ws : List ℕ) (good : planRefusal p ≡ 0) (fi
   unfolding eq?
   early = omega (arith, in-time, eqb-false (s .n) (p .horizon) (not-over .1), ok .horizon-range)
 
+  -- no open threshold is wide
+  pub thin-at : (i : ℕ) → i < p .count → (isOpen (recordAt s i .mark) && isWide (recordAt s i .walked)) ≡ false
+  unfolding anyWide
+  thin-at = none-reads (λ i. isOpen (recordAt s i .mark) && isWide (recordAt s i .walked)) (p .count) .0 (not-over .0)
+
   pub all-may-turn : (i : ℕ) → i < p .count
       → MayTurn (thresholdAt p i) (spendingOf p i (suc (s .n))) (recordAt s i .mark) (recordAt s i) (partAt i ws)
-  unfolding anyWide
   all-may-turn i l =
       may-turn-by (spendingOf p i) (s .n) (s .ones) (thresholdAt p i) (threshold-ok p ok i l) (spends p ok i l) (le-of-lt early)
-      (recordAt s i) (partAt i ws) (part-length ws (p .count) i fits l) (recordAt s i .mark) (sound-at i l)
-      (none-reads (λ i. isOpen (recordAt s i .mark) && isWide (recordAt s i .walked)) (p .count) .0 (not-over .0) i l)
+      (recordAt s i) (partAt i ws) (part-length ws (p .count) i fits l) (recordAt s i .mark) (sound-at i l) (thin-at i l)
 
 -- the state and the words after the turns of all, of which n is the draw
 module _ (p : Plan) (s : State) (ws : List ℕ) (d n : ℕ) (n-is : n ≡ suc (s .n)) where
@@ -140,7 +143,7 @@ module _ (p : Plan) (ws : List ℕ) where
 -- ---- the ways out of a draw
 
 module _ (p : Plan) (s : State) (ws : List ℕ) (d : ℕ) where
-  drawn-by : (r : ℕ) → drawRefusal p s ws d ≡ r → drawn p s ws d ≡ drawnBy r p s ws d
+  pub drawn-by : (r : ℕ) → drawRefusal p s ws d ≡ r → drawn p s ws d ≡ drawnBy r p s ws d
   unfolding drawn
   drawn-by r e = rw e
 

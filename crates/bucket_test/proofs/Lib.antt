@@ -4,6 +4,7 @@ pub mod PlaceLists
 -- The plan's rules in words.
 pub mod Cover
 pub mod Rules
+pub mod Ignored
 -- A carried test: one threshold, the whole state, the beginning, demand 3, runs of draws.
 pub mod Following
 pub mod Invariant
@@ -15,3 +16,5 @@ mod Trials
 mod AnsweringLaws
 mod TurningLaws
 mod DrawingLaws
+-- A draw to any state that passes refusal 11.
+pub mod OneStep

@@ -8,9 +8,9 @@ use native.Mathlib.Nat.{eq-or-lt-of-le}
 use native.Mathlib.Numerals.{add-one}
 use native.Mathlib.Omega.{arith}
 use borrow.Author.Tests.{eqb-true, eq-eqb, ne-eqb, not-true, not-false}
-use Rattle.walk.specs.Numbers.{le?}
+use Rattle.walk.specs.Numbers.{le?, searchUp}
 use Rattle.walk.proofs.Tests.{Le?, le, gt, test, clash, and-true, le?-sound, le?-complete, le?-fails}
-use Rattle.bucket_test.specs.Tests.{eq?, within, allTo, anyTo, unless, firstRefusal}
+use Rattle.bucket_test.specs.Tests.{eq?, within, allTo, anyTo, largestTo, smallestTo, unless, firstRefusal}
 
 -- ---- Booleans
 
@@ -168,6 +168,34 @@ module _ (pass : ℕ → Bool) where
       off : (b : Bool) → (b ≡ true → b ≡ false) → b ≡ false
       off true f = f refl
       off false f = refl
+
+-- ---- two families that agree at each place below n
+
+pub all-cong : (n : ℕ) (f g : ℕ → Bool) → ((i : ℕ) → i < n → f i ≡ g i) → allTo n f ≡ allTo n g
+unfolding allTo
+all-cong zero f g e = refl
+all-cong (suc n) f g e = rw (all-cong n f g (λ i l. e i (omega arith)), e n (omega arith))
+
+pub any-cong : (n : ℕ) (f g : ℕ → Bool) → ((i : ℕ) → i < n → f i ≡ g i) → anyTo n f ≡ anyTo n g
+unfolding anyTo
+any-cong zero f g e = refl
+any-cong (suc n) f g e = rw (any-cong n f g (λ i l. e i (omega arith)), e n (omega arith))
+
+pub largest-cong : (n : ℕ) (f g : ℕ → ℕ) (least : ℕ) → ((i : ℕ) → i < n → f i ≡ g i) → largestTo n f least ≡ largestTo n g least
+unfolding largestTo
+largest-cong zero f g least e = refl
+largest-cong (suc n) f g least e = rw (largest-cong n f g least (λ i l. e i (omega arith)), e n (omega arith))
+
+pub smallest-cong : (n : ℕ) (f g : ℕ → ℕ) (most : ℕ) → ((i : ℕ) → i < n → f i ≡ g i) → smallestTo n f most ≡ smallestTo n g most
+unfolding smallestTo
+smallest-cong zero f g most e = refl
+smallest-cong (suc n) f g most e = rw (smallest-cong n f g most (λ i l. e i (omega arith)), e n (omega arith))
+
+-- a search from place j on
+pub search-cong : (n j : ℕ) (f g : ℕ → Bool) → ((i : ℕ) → i < j + n → f i ≡ g i) → searchUp n j f ≡ searchUp n j g
+unfolding searchUp
+search-cong zero j f g e = refl
+search-cong (suc n) j f g e = rw (search-cong n (suc j) f g (λ i l. e i (omega arith)), e j (omega arith))
 
 -- ---- refusals in order
 

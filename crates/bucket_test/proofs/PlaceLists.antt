@@ -32,6 +32,13 @@ module _ {A : Type 0} where
   over-drop (suc k) f [] = refl
   over-drop (suc k) f (x ∷ xs) = over-drop k (λ i. f (suc i)) xs
 
+  -- two rounds that agree at each place below k
+  pub over-cong : (k : ℕ) (f g : ℕ → A → A) (xs : List A) → ((i : ℕ) → i < k → (x : A) → f i x ≡ g i x) → overTo k f xs ≡ overTo k g xs
+  unfolding overTo
+  over-cong zero f g xs e = refl
+  over-cong (suc k) f g [] e = refl
+  over-cong (suc k) f g (x ∷ xs) e = rw (e 0 (omega arith) x, over-cong k (λ i. f (suc i)) (λ i. g (suc i)) xs (λ i l. e (suc i) (omega arith)))
+
   -- two rounds in one
   pub over-over : (k : ℕ) (f g h : ℕ → A → A) (xs : List A) → ((i : ℕ) → i < k → (x : A) → f i (g i x) ≡ h i x) → overTo k f (overTo k g xs) ≡ overTo k h xs
   unfolding overTo

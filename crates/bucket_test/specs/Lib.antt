@@ -5,6 +5,8 @@ pub mod Words
 pub mod Turn
 pub mod Answers
 pub mod Draw
+pub mod Ignored
+pub mod OneStep
 pub mod Carried
 pub mod Demand3
 pub mod Trials

@@ -1,13 +1,12 @@
--- The trials of 01 that are proved, P1 to P10: what is computed from the definitions beside what 01 prints, a line each.
+-- The trials of 01 that are proved, P1 to P10, and its two powers of 2: what is computed from the definitions beside what 01 prints, a line
+-- each.
 use mathlib.Core.List.{List, [], _∷_, map}
-use Prim.Native.Nat.{ℕ}
+use Prim.Native.Nat.{ℕ, _+_, _^_}
 use lib.IntN.{ℤ, pos, negsuc}
 use lib.ListN.{replicate}
-use Rattle.walk.specs.Numbers.{sum}
-use Rattle.walk.specs.Units.{M}
+use Rattle.walk.specs.Units.{M, massLimit}
 use Rattle.walk.specs.Spending.{spending}
 use Rattle.walk.specs.Walk.{walk, lower}
-use Rattle.walk.specs.Row.{newMasses}
 use Rattle.walk.specs.declared.Mark.{Mark}
 use Rattle.walk.specs.declared.Mark.the-variants.{Open, Above, AtMost}
 use Rattle.bucket_test.specs.Plan.{thresholdAt, spendingOf, planRefusal}
@@ -65,8 +64,10 @@ boundaries a E t = pos (walk a E t .upper) ∷ lower (walk a E t) ∷ []
 
 unfoldable pub computed : List (List ℤ)
 computed =
+    -- the whole, and the largest live word of a state that is not spoiled
+    (pos M ∷ pos massLimit ∷ [])
     -- P1
-    (pos (spendingF 1) ∷ pos (spendingF 1000) ∷ [])
+    ∷ (pos (spendingF 1) ∷ pos (spendingF 1000) ∷ [])
     -- P2
     ∷ boundaries thresholdF spendingF 1
     ∷ boundaries thresholdF spendingF 2
@@ -75,9 +76,9 @@ computed =
     ∷ boundaries thresholdF spendingF 5
     -- P3
     ∷ (pos (walk thresholdF spendingF 1 .mass 0) ∷ pos (walk thresholdF spendingF 1 .mass 1) ∷ [])
-    -- P4
-    ∷ map pos (newMasses 400000 (M ∷ []))
-    ∷ (pos (sum (newMasses 400000 (M ∷ []))) ∷ [])
+    -- P4, with the spending of P5, under which both counts stay live (P6): masses, and both together
+    ∷ (pos (walk 400000 spending5 1 .mass 0) ∷ pos (walk 400000 spending5 1 .mass 1) ∷ [])
+    ∷ (pos (walk 400000 spending5 1 .mass 0 + walk 400000 spending5 1 .mass 1) ∷ [])
     -- P5
     ∷ (pos (spending5 1) ∷ pos (spending5 2) ∷ [])
     -- P6
@@ -96,8 +97,9 @@ computed =
 
 unfoldable pub printed : List (List ℤ)
 printed =
+    (pos (2 ^ 42) ∷ pos (2 ^ 43) ∷ [])
     -- P1
-    (pos 4393652 ∷ pos 2199023255 ∷ [])
+    ∷ (pos 4393652 ∷ pos 2199023255 ∷ [])
     -- P2
     ∷ (pos 2 ∷ negsuc 0 ∷ [])
     ∷ (pos 3 ∷ negsuc 0 ∷ [])
@@ -108,7 +110,7 @@ printed =
     ∷ (pos 4178144185549 ∷ pos 219902325556 ∷ [])
     -- P4
     ∷ (pos 2638827906663 ∷ pos 1759218604442 ∷ [])
-    ∷ (pos 4398046511105 ∷ [])
+    ∷ (pos (M + 1) ∷ [])
     -- P5
     ∷ (pos 1099511627775 ∷ pos 1466015503700 ∷ [])
     -- P6

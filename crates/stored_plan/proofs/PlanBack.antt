@@ -1,14 +1,15 @@
 -- An accepted plan's form is read back: the plan with zeros past its counts. Assumes nothing.
-use mathlib.Core.Path.{_≡_, refl, sym, _∙_}
+use mathlib.Core.Path.{_≡_, refl, _∙_}
 use mathlib.Core.List.{List, [], _++_, append-assoc, append-nil}
 use mathlib.Core.Logic.{inl, inr}
-use Prim.Native.Nat.{ℕ, suc, _+_, _*_, _≤_, _<_}
+use Prim.Native.Nat.{ℕ, _+_, _*_, _≤_, _<_}
 use native.Mathlib.Omega.{arith}
 use lib.ListN.{length, length-append}
 use Rattle.walk.specs.Units.{million, allowanceLimit, horizonLimit}
-use Rattle.bucket_test.specs.Plan.{thresholdAt, allowanceAt, leftAt, rightAt, Permitted, Covered, Accepted}
+use Rattle.bucket_test.specs.Plan.{thresholdAt, allowanceAt, leftAt, rightAt, Permitted, Accepted}
 use Rattle.bucket_test.specs.declared.Plan.{Plan}
 use Rattle.bucket_test.proofs.Rules.{accepted}
+use Rattle.bucket_test.proofs.Ignored.{ignored}
 use Rattle.stored_plan.specs.Little.{toLE, field}
 use Rattle.stored_plan.specs.Form.{headerSize, bucketOffset, header, thresholdEntries, bucketEntries, encoded}
 use Rattle.stored_plan.specs.Reading.{filled, countIn, bucketsIn, planIn, readRefusal}
@@ -31,15 +32,17 @@ counted p = record {
   right = filled 16 (p .buckets) (rightAt p);
 }
 
--- ---- it is the same plan, and accepted
+-- ---- it is the same plan
 
 pub same : (p : Plan) → p .count ≤ 10 → p .buckets ≤ 16 → Same p (counted p)
 unfolding counted
 same p k b = record {
-  counts = (refl, refl);
-  times = (refl, refl);
-  entries = λ i l. (filled-get 10 (p .count) (thresholdAt p) k i l, filled-get 10 (p .count) (allowanceAt p) k i l);
-  ends = λ j l. (filled-get 16 (p .buckets) (leftAt p) b j l, filled-get 16 (p .buckets) (rightAt p) b j l);
+  counted-same = record {
+    counts = (refl, refl);
+    times = (refl, refl);
+    entries = λ i l. (filled-get 10 (p .count) (thresholdAt p) k i l, filled-get 10 (p .count) (allowanceAt p) k i l);
+    ends = λ j l. (filled-get 16 (p .buckets) (leftAt p) b j l, filled-get 16 (p .buckets) (rightAt p) b j l);
+  };
   entries-past = λ i l. (filled-past 10 (p .count) (thresholdAt p) i l, filled-past 10 (p .count) (allowanceAt p) i l);
   ends-past = λ j l. (filled-past 16 (p .buckets) (leftAt p) j l, filled-past 16 (p .buckets) (rightAt p) j l);
   places = (
@@ -49,37 +52,6 @@ same p k b = record {
     filled-length 16 (p .buckets) (rightAt p),
   );
 }
-
--- what is the same plan in its counted places is accepted with it
-module _ (p q : Plan) (s : Same p q) where
-  permits : (e : ℕ) → Permitted p e → Permitted q e
-  permits e (inl z) = inl z
-  permits e (inr (inl z)) = inr (inl z)
-  permits e (inr (inr (i, l, z))) = inr (inr (i, rw (s .counts .0) l, z ∙ sym (s .entries i l .0)))
-
-  covers : Covered p → Covered q
-  unfolding Covered
-  covers c x y h k =
-      let t = c x y h k in
-      (t .0, rw (s .counts .1) (t .1), rw (s .ends (t .0) (t .1) .0, s .ends (t .0) (t .1) .1) (t .2))
-
-  pub same-accepted : Accepted p → Accepted q
-  same-accepted a = record {
-    count-range = rw (s .counts .0) (a .count-range);
-    buckets-range = rw (s .counts .1) (a .buckets-range);
-    threshold-range = λ i l. let k = rw (s .counts .0) at l in rw (s .entries i k .0) (a .threshold-range i k);
-    thresholds-rise = λ i l. let k = rw (s .counts .0) at l in rw (s .entries i (omega arith) .0, s .entries (suc i) k .0) (a .thresholds-rise i k);
-    allowance-range = λ i l. let k = rw (s .counts .0) at l in rw (s .entries i k .1) (a .allowance-range i k);
-    delay-range = rw (s .times .0) (a .delay-range);
-    horizon-range = rw (s .times .1) (a .horizon-range);
-    ends-order = λ j l. let k = rw (s .counts .1) at l in rw (s .ends j k .0, s .ends j k .1) (a .ends-order j k);
-    not-whole = λ j l. let k = rw (s .counts .1) at l in rw (s .ends j k .0, s .ends j k .1) (a .not-whole j k);
-    ends-permitted = λ j l.
-        let k = rw (s .counts .1) at l in
-        let t = a .ends-permitted j k in
-        rw (s .ends j k .0, s .ends j k .1) (permits (leftAt p j) (t .0), permits (rightAt p j) (t .1));
-    covered = covers (a .covered);
-  }
 
 -- ---- the form of an accepted plan, field by field
 
@@ -186,11 +158,12 @@ module _ (p : Plan) (a : Accepted p) where
   pub form-read : readRefusal (encoded p) ≡ 0
   unfolding countIn bucketsIn
   form-read =
-      let q = same-accepted p (counted p) (same p (a .count-range .1) (a .buckets-range .1)) a in
+      let e = ignored p (counted p) (same p (a .count-range .1) (a .buckets-range .1) .counted-same) .refusal-same ∙ accepted p .1 a in
+      let q = accepted (counted p) .0 e in
       readable (encoded p) .1 (
         rw (encoded-length p) (header-fits (p .count) (p .buckets)),
         (
           rw plan-back (q .count-range, q .buckets-range),
-          ((in-first, rw in-count in-second), (rw (in-count, in-buckets) (encoded-length p), rw plan-back (accepted (counted p) .1 q))),
+          ((in-first, rw in-count in-second), (rw (in-count, in-buckets) (encoded-length p), rw plan-back e)),
         ),
       )

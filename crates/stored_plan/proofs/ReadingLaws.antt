@@ -1,7 +1,7 @@
 -- Tables with zeros past their counts (specs/Reading, filled). Assumes nothing.
 use mathlib.Core.Path.{_≡_, refl, ap, _∙_}
 use mathlib.Core.Bool.{Bool, true, false}
-use mathlib.Core.List.{List, [], _∷_}
+use mathlib.Core.List.{List, _∷_}
 use mathlib.Core.Logic.{⊎-elim}
 use Prim.Native.Nat.{ℕ, zero, suc, _+_, _≤_, _<_}
 use native.Mathlib.Numerals.{add-one}
@@ -11,7 +11,7 @@ use Rattle.walk.specs.Numbers.{lt?, only}
 use Rattle.walk.proofs.Tests.{Le?, le, test, le?-complete, le?-fails, only-holds, only-fails}
 use Rattle.bucket_test.specs.Tests.{overTo}
 use Rattle.bucket_test.proofs.PlaceLaws.{le-or-lt}
-use Rattle.bucket_test.proofs.PlaceLists.{over-length, over-get, over-put}
+use Rattle.bucket_test.proofs.PlaceLists.{over-length, over-get, over-cong, over-put}
 use Rattle.stored_plan.specs.Reading.{filled}
 
 -- ---- a table that a loop fills
@@ -59,16 +59,10 @@ module _ (places count : ℕ) (f : ℕ → ℕ) where
       ⊎-elim (λ h. List·getD-eq-default (filled places count f) 0 (omega (arith, filled-length)))
       (λ h. filled-at i h ∙ only-fails (suc i) count (f i) (omega arith)) (le-or-lt places i)
 
-over-cong : (k : ℕ) (f g : ℕ → ℕ → ℕ) (xs : List ℕ) → ((i : ℕ) (x : ℕ) → f i x ≡ g i x) → overTo k f xs ≡ overTo k g xs
-unfolding overTo
-over-cong zero f g xs e = refl
-over-cong (suc k) f g [] e = refl
-over-cong (suc k) f g (x ∷ xs) e = rw (e 0 x, over-cong k (λ i. f (suc i)) (λ i. g (suc i)) xs (λ i. e (suc i)))
-
 -- only the counted places matter
 pub filled-cong : (places count : ℕ) (f g : ℕ → ℕ) → ((i : ℕ) → i < count → f i ≡ g i) → filled places count f ≡ filled places count g
 unfolding filled
-filled-cong places count f g e = over-cong places _ _ (replicate places 0) (λ i z. same i (lt? i count) (test (suc i) count))
+filled-cong places count f g e = over-cong places _ _ (replicate places 0) (λ i l z. same i (lt? i count) (test (suc i) count))
   where
     same : (i : ℕ) (b : Bool) → Le? (suc i) count b → only b (f i) ≡ only b (g i)
     same i true (le l) = e i l

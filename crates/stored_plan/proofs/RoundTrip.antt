@@ -6,11 +6,14 @@ use native.Mathlib.Omega.{arith}
 use lib.ListN.{drop}
 use lib.Seq.{take-at, drop-at}
 use Rattle.bucket_test.specs.declared.Plan.{Plan}
+use Rattle.bucket_test.specs.Ignored.{SameCounted}
+use Rattle.bucket_test.proofs.PlaceLists.{join-cong}
 use Rattle.bucket_test.proofs.Rules.{accepted}
-use Rattle.stored_plan.specs.Form.{bucketOffset, formSize, encoded}
+use Rattle.bucket_test.proofs.Ignored.{ignored}
+use Rattle.stored_plan.specs.Form.{bucketOffset, formSize, header, thresholdEntries, bucketEntries, encoded}
 use Rattle.stored_plan.specs.Reading.{planIn, readRefusal, decodedBy, decoded}
-use Rattle.stored_plan.specs.Writing.{writeRefusal, writtenBy, written}
-use Rattle.stored_plan.specs.RoundTrip.{PlanBack, BytesBack, FormLength, AcceptedForms, FormWritten}
+use Rattle.stored_plan.specs.Writing.{writeRefusal, writtenBy, bytesBy, written, bytesAfter}
+use Rattle.stored_plan.specs.RoundTrip.{PlanBack, BytesBack, FormLength, AcceptedForms, FormWritten, IgnoredInForm}
 use Rattle.stored_plan.proofs.FormLaws.{encoded-length}
 use Rattle.stored_plan.proofs.Refusals.{readable, decoded-none, written-none}
 use Rattle.stored_plan.proofs.PlanBack.{same, plan-back, form-read}
@@ -61,3 +64,31 @@ form-written-holds p bytes e =
     let w = written-none p bytes (sym (write-refusal p bytes) ∙ e) in
     let n = encoded-length p in
     rw (← w .0, ← w .1) (take-at (encoded p) (drop (formSize (p .count) (p .buckets)) bytes) _ n, drop-at (encoded p) (drop (formSize (p .count) (p .buckets)) bytes) _ n)
+
+module _ (p q : Plan) (c : SameCounted p q) where
+  thresholds-same : thresholdEntries q ≡ thresholdEntries p
+  unfolding thresholdEntries
+  thresholds-same = rw (c .counts .0) (join-cong (p .count) _ _ (λ i l. rw (c .entries i l .0, c .entries i l .1)))
+
+  buckets-same : bucketEntries q ≡ bucketEntries p
+  unfolding bucketEntries
+  buckets-same = rw (c .counts .1) (join-cong (p .buckets) _ _ (λ j l. rw (c .ends j l .0, c .ends j l .1)))
+
+  form-same : encoded q ≡ encoded p
+  unfolding encoded header
+  form-same = rw (thresholds-same, buckets-same, c .counts .0, c .counts .1, c .times .0, c .times .1)
+
+  module _ (bytes : List ℕ) where
+    refusal-same : writeRefusal q bytes ≡ writeRefusal p bytes
+    unfolding writeRefusal
+    refusal-same = rw (ignored p q c .refusal-same, c .counts .0, c .counts .1)
+
+    written-same : (r : ℕ) → (writtenBy r q ≡ writtenBy r p) × (bytesBy r q bytes ≡ bytesBy r p bytes)
+    written-same zero = rw (form-same, c .counts .0, c .counts .1) (refl, refl)
+    written-same (suc r) = (refl, refl)
+
+pub ignored-in-form : IgnoredInForm
+unfolding written bytesAfter
+ignored-in-form p q c bytes =
+    let w = written-same p q c bytes (writeRefusal p bytes) in
+    rw (refusal-same p q c bytes) (form-same p q c, w .0, w .1)

@@ -2,9 +2,10 @@
 use mathlib.Core.List.{List}
 use mathlib.Core.Logic.{_↔_}
 use mathlib.Core.Path.{_≡_}
-use Prim.Native.Nat.{ℕ, _≤_, _<_}
+use Prim.Native.Nat.{ℕ, _≤_}
 use lib.ListN.{length, take, drop}
 use Rattle.bucket_test.specs.Plan.{thresholdAt, allowanceAt, leftAt, rightAt, planRefusal}
+use Rattle.bucket_test.specs.Ignored.{SameCounted}
 use Rattle.bucket_test.specs.declared.Plan.{Plan}
 use Rattle.stored_plan.specs.Little.{Bytes}
 use Rattle.stored_plan.specs.Form.{formSize, encoded}
@@ -13,10 +14,7 @@ use Rattle.stored_plan.specs.Writing.{written, bytesAfter}
 
 -- q is p in its numbers and each counted place, and has zeros elsewhere
 pub record Same (p q : Plan) : Type 0 where
-  pub counts : (q .count ≡ p .count) × (q .buckets ≡ p .buckets)
-  pub times : (q .delay ≡ p .delay) × (q .horizon ≡ p .horizon)
-  pub entries : (i : ℕ) → i < p .count → (thresholdAt q i ≡ thresholdAt p i) × (allowanceAt q i ≡ allowanceAt p i)
-  pub ends : (j : ℕ) → j < p .buckets → (leftAt q j ≡ leftAt p j) × (rightAt q j ≡ rightAt p j)
+  pub counted-same : SameCounted p q
   pub entries-past : (i : ℕ) → p .count ≤ i → (thresholdAt q i ≡ 0) × (allowanceAt q i ≡ 0)
   pub ends-past : (j : ℕ) → p .buckets ≤ j → (leftAt q j ≡ 0) × (rightAt q j ≡ 0)
   pub places : (length (q .thresholds) ≡ 10) × (length (q .allowances) ≡ 10) × (length (q .left) ≡ 16) × (length (q .right) ≡ 16)
@@ -42,3 +40,8 @@ abbrev pub FormWritten : Type 0
 FormWritten = (p : Plan) (bytes : List ℕ) → written p bytes .refusal ≡ 0
     → (take (written p bytes .size) (bytesAfter p bytes) ≡ encoded p)
     × (drop (written p bytes .size) (bytesAfter p bytes) ≡ drop (written p bytes .size) bytes)
+
+-- places past a count are ignored in writing too
+abbrev pub IgnoredInForm : Type 0
+IgnoredInForm = (p q : Plan) → SameCounted p q → (bytes : List ℕ)
+    → (encoded q ≡ encoded p) × (written q bytes ≡ written p bytes) × (bytesAfter q bytes ≡ bytesAfter p bytes)

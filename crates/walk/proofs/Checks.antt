@@ -139,7 +139,7 @@ module _ (E : ℕ → ℕ) (n s : ℕ) (w : Walked) (words : List ℕ) (size : l
       let c = checked h in
       λ i. record { lower = sym (c .signed) i; upper = sym (c .upper-is) i; over = w .over; under = w .under }
 
-  narrow : isSound (E n) n s w words ≡ true → isWide w ≡ false → length (rowOf w words .masses) < wide
+  pub narrow : isSound (E n) n s w words ≡ true → isWide w ≡ false → length (rowOf w words .masses) < wide
   unfolding wide
   narrow h thin =
       let d = eqb-false (suc (length (rowOf w words .masses))) 770 (sym (wide-record (rowOf w words)) ∙ ap isWide (record-back h) ∙ thin) in

@@ -12,13 +12,14 @@ use lib.Signed.{leZ}
 use Rattle.walk.specs.Numbers.{le?, lt?, eqZ?}
 use Rattle.walk.specs.Units.{M, million, wide}
 use Rattle.walk.specs.Spending.{IsSpending}
-use Rattle.walk.specs.Walk.{below, lower, walk, firstAt, upperAt, NoWideBefore}
-use Rattle.walk.specs.Row.{upper, startRow, stepRow, rows}
-use Rattle.walk.specs.Strings.{Draws, ones, judged, verdict, orElse, mark, isOpen}
+use Rattle.walk.specs.Walk.{Walk, below, lower, walk, firstAt, upperAt, NoWideBefore}
+use Rattle.walk.specs.Row.{Row, upper, startRow, stepRow, rows}
+use Rattle.walk.specs.Strings.{Draws, ones, Side, Upper, Lower, Reaches, judged, verdict, orElse, mark, settled, isOpen}
 use Rattle.walk.specs.Record.{recordOf, isWide, padded}
+use Rattle.walk.specs.Facts.{Same}
 use Rattle.walk.specs.declared.Mark.the-variants.{Open, Above, AtMost}
 use Rattle.walk.specs.declared.Mark.{Mark}
-use Rattle.walk.proofs.Tests.{test, Le?, le, gt, clash}
+use Rattle.walk.proofs.Tests.{test, Le?, le, gt, clash, le?-complete, le?-fails}
 use Rattle.walk.proofs.Boundaries.{under-below}
 use Rattle.walk.proofs.Agreement.{at-add, same, first-at, upper-at, not-wide}
 
@@ -47,6 +48,34 @@ padded-word masses j = go masses (wide - length masses) j
     go [] (suc k) (suc j) = go [] k j
     go (x ∷ xs) k zero = refl
     go (x ∷ xs) k (suc j) = go xs k j
+
+-- ---- a row that is a walk, by count: its record and its words as 01 names them
+
+module _ {w : Walk} {r : Row} (s : Same w r) where
+  -- the record holds the walk's boundaries and spent masses
+  pub record-same : (recordOf r .lower ≡ lower w) × (recordOf r .upper ≡ w .upper)
+      × (recordOf r .over ≡ w .over) × (recordOf r .under ≡ w .under)
+  unfolding recordOf lower
+  record-same = (rw (s .first-same), sym (s .upper-same), sym (s .over-same), sym (s .under-same))
+
+  -- word j is the mass at count first + j
+  pub word-same : (j : ℕ) → w .mass (w .first + j) ≡ getD (r .masses) j 0
+  word-same j = rw (s .first-same) (s .mass-same (r .first + j) ∙ at-add (r .first) (r .masses) j)
+
+  -- S ones stand to the record's boundaries as to the walk's
+  pub judged-same : (t S : ℕ)
+      → judged t (le? (recordOf r .upper) S) (leZ (pos S) (recordOf r .lower)) ≡ judged t (le? (w .upper) S) (lt? S (w .first))
+  unfolding recordOf
+  judged-same t S = rw (under-below S (r .first), s .first-same, s .upper-same)
+
+-- between boundaries in order, S ones settle a threshold on the side that they reach; where they reach none it stays open
+module _ (t S first upper : ℕ) where
+  pub judged-on : first ≤ upper → (side : Side) → Reaches side first upper S → judged t (le? upper S) (lt? S first) ≡ settled side t
+  judged-on o Upper h = rw (le?-complete upper S h)
+  judged-on o Lower h = rw (le?-fails upper S (omega arith), le?-complete (suc S) first h)
+
+  pub judged-open : ((side : Side) → ¬ (Reaches side first upper S)) → judged t (le? upper S) (lt? S first) ≡ Open
+  judged-open none = rw (le?-fails upper S (omega (arith, none Upper)), le?-fails (suc S) first (omega (arith, none Lower)))
 
 module _ (a : ℕ) (E : ℕ → ℕ) where
   pub rows-zero : rows a E 0 ≡ startRow
@@ -85,17 +114,14 @@ module _ (a : ℕ) (E : ℕ → ℕ) where
 
     -- the same by the boundaries of a record
     pub verdict-record : (t S : ℕ) → judged t (le? (recordOf (rows a E t) .upper) S) (leZ (pos S) (recordOf (rows a E t) .lower)) ≡ verdictOf t S
-    unfolding recordOf
-    verdict-record t S = rw (under-below S (rows a E t .first)) (sym (verdict-row t S))
+    unfolding verdict firstAt upperAt
+    verdict-record t S = judged-same (same a threshold E spends t) t S
 
     -- the record of a row holds the walk's boundaries and spent masses
     pub record-walk : (t : ℕ)
         → (recordOf (rows a E t) .lower ≡ lower (walk a E t)) × (recordOf (rows a E t) .upper ≡ walk a E t .upper)
         × (recordOf (rows a E t) .over ≡ walk a E t .over) × (recordOf (rows a E t) .under ≡ walk a E t .under)
-    unfolding recordOf lower
-    record-walk t =
-        let s = same a threshold E spends t in
-        (rw (s .first-same), sym (s .upper-same), sym (s .over-same), sym (s .under-same))
+    record-walk t = record-same (same a threshold E spends t)
 
     -- an open mark: the ones lie strictly between the boundaries
     inside : (t S : ℕ) → verdictOf t S ≡ Open → (rows a E t .first ≤ S) × (S < upper (rows a E t))
@@ -127,6 +153,4 @@ module _ (a : ℕ) (E : ℕ → ℕ) where
 
     -- word j of a row is the mass at count first + j
     pub mass-word : (t j : ℕ) → walk a E t .mass (walk a E t .first + j) ≡ getD (rows a E t .masses) j 0
-    mass-word t j =
-        let s = same a threshold E spends t in
-        rw (s .first-same) (s .mass-same (rows a E t .first + j) ∙ at-add (rows a E t .first) (rows a E t .masses) j)
+    mass-word t = word-same (same a threshold E spends t)

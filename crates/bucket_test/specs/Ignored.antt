@@ -1,0 +1,29 @@
+-- Places past a count are ignored (01, "The plan"): what is claimed of two plans that differ in such places only. Definitions only.
+use mathlib.Core.Path.{_≡_}
+use mathlib.Core.List.{List}
+use Prim.Native.Nat.{ℕ, _<_}
+use Rattle.bucket_test.specs.Plan.{thresholdAt, allowanceAt, leftAt, rightAt, planRefusal}
+use Rattle.bucket_test.specs.Answers.{answerOf}
+use Rattle.bucket_test.specs.Draw.{begun, drawn, report, drawnAll}
+use Rattle.bucket_test.specs.declared.State.{State}
+use Rattle.bucket_test.specs.declared.Plan.{Plan}
+
+-- q is p in its numbers and in each counted place
+pub record SameCounted (p q : Plan) : Type 0 where
+  pub counts : (q .count ≡ p .count) × (q .buckets ≡ p .buckets)
+  pub times : (q .delay ≡ p .delay) × (q .horizon ≡ p .horizon)
+  pub entries : (i : ℕ) → i < p .count → (thresholdAt q i ≡ thresholdAt p i) × (allowanceAt q i ≡ allowanceAt p i)
+  pub ends : (j : ℕ) → j < p .buckets → (leftAt q j ≡ leftAt p j) × (rightAt q j ≡ rightAt p j)
+
+-- q stands for p in the rules, in the answer to a state, and in every call
+pub record SameTest (p q : Plan) : Type 0 where
+  pub refusal-same : planRefusal q ≡ planRefusal p
+  pub answer-same : (s : State) → answerOf q s ≡ answerOf p s
+  pub report-same : (s : State) → report q s ≡ report p s
+  pub begun-same : (words : List ℕ) → begun q words ≡ begun p words
+  pub drawn-same : (s : State) (words : List ℕ) (d : ℕ) → drawn q s words d ≡ drawn p s words d
+  pub run-same : (s : State) (words ds : List ℕ) → drawnAll q s words ds ≡ drawnAll p s words ds
+
+-- of every two plans
+abbrev pub IgnoredTheorem : Type 0
+IgnoredTheorem = (p q : Plan) → SameCounted p q → SameTest p q
