@@ -9,6 +9,7 @@ use borrow.Author.Tests.{eq-eqb}
 use lib.ListN.{length}
 use Rattle.walk.specs.Numbers.{le?, lt?}
 use Rattle.walk.specs.Units.{wide}
+use Rattle.walk.specs.Walk.{walk}
 use Rattle.walk.specs.Strings.{Draws, lastStep}
 use Rattle.walk.proofs.Tests.{test, Le?, le, gt, clash}
 use Rattle.walk.proofs.Chances.{meets-says, allowed-always, chances}
@@ -16,12 +17,12 @@ use Rattle.walk.proofs.WalkFacts.{walk-facts}
 use Rattle.walk.proofs.Seams.{mark-nil, narrow-start}
 use Rattle.bucket_test.specs.Tests.{eq?, unless, firstRefusal}
 use Rattle.bucket_test.specs.Plan.{thresholdAt, spendingOf, planRefusal, Accepted}
-use Rattle.bucket_test.specs.Words.{partAt, wordsFit}
+use Rattle.bucket_test.specs.Words.{partAt, wordsFit, Stands}
 use Rattle.bucket_test.specs.Turn.{recordAt}
 use Rattle.bucket_test.specs.Answers.{lowOf, highOf, anyWide, firstBucket, answerOf, answerBy, firstThatFits, isEnding, refusalOf}
 use Rattle.bucket_test.specs.Draw.{Outcome, beginRefusal, begun, drawRefusal, nextState, drawnBy, drawn}
 use Rattle.bucket_test.specs.Carried.{carried, hasEnded, takenBy, taken}
-use Rattle.bucket_test.specs.Demand3.{Marks, Stands, AnswersDraw, Answered, Demand3, Demand3Theorem}
+use Rattle.bucket_test.specs.Demand3.{Marks, AnswersDraw, Answered, Demand3, Demand3Theorem}
 use Rattle.bucket_test.proofs.Rules.{threshold-ok, spends, accepted}
 use Rattle.bucket_test.proofs.Beginning.{start-open}
 use Rattle.bucket_test.proofs.Following.{marks-say, stands-at}
@@ -220,8 +221,8 @@ module _ (p : Plan) (ok : Accepted p) (good : planRefusal p ≡ 0) (words : List
       marks-now : Marks (thresholdAt p i) (spendingOf p i) t (recordAt (carried p words ds .state) i .mark)
       marks-now = rw mark-now (marks-say (thresholdAt p i) (spendingOf p i) (threshold-ok p ok i l) (spends p ok i l) t (held ds .history .narrow i l))
 
-      stands-now : Stands (thresholdAt p i) (spendingOf p i) (lastStep (recordAt (carried p words ds .state) i .mark) (length t))
-          (recordAt (carried p words ds .state) i) (partAt i (carried p words ds .words))
+      stands-now : Stands (walk (thresholdAt p i) (spendingOf p i) (lastStep (recordAt (carried p words ds .state) i .mark) (length t)))
+          (recordAt (carried p words ds .state) i .walked) (partAt i (carried p words ds .words))
       unfolding recordAfter partAfter
       stands-now =
           rw (mark-now, record-now, part-now)

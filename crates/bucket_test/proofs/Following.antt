@@ -8,7 +8,7 @@ use lib.ListN.{length}
 use Rattle.walk.specs.Numbers.{le?, lt?}
 use Rattle.walk.specs.Units.{million, wide}
 use Rattle.walk.specs.Spending.{IsSpending}
-use Rattle.walk.specs.Walk.{firstAt, upperAt, NoWideBefore}
+use Rattle.walk.specs.Walk.{walk, firstAt, upperAt, NoWideBefore}
 use Rattle.walk.specs.Row.{Row, upper, startRow, rows}
 use Rattle.walk.specs.Strings.{Draws, ones, Side, Upper, Lower, judged, orElse, settled, lastStep}
 use Rattle.walk.specs.Record.{recordOf, padded}
@@ -16,13 +16,15 @@ use Rattle.walk.specs.declared.Mark.{Mark}
 use Rattle.walk.specs.declared.Mark.the-variants.{Open, Above, AtMost}
 use Rattle.walk.proofs.Tests.{le?-complete}
 use Rattle.walk.proofs.RowSteps.{rows-fit}
-use Rattle.walk.proofs.Agreement.{in-order, not-wide}
+use Rattle.walk.proofs.Agreement.{same, in-order, not-wide}
 use Rattle.walk.proofs.Meeting.{last-settled, mark-meets, mark-open}
 use Rattle.walk.proofs.Checks.{padded-length, row-back, walk-passes}
-use Rattle.walk.proofs.Seams.{rows-zero, rows-suc, markOf, verdictOf, mark-cons, verdict-row, verdict-record, record-walk, padded-word, open-inside, narrow-next, mass-word}
+use Rattle.walk.proofs.Seams.{rows-zero, rows-suc, markOf, verdictOf, mark-cons, verdict-row, verdict-record, open-inside, narrow-next}
+use Rattle.bucket_test.specs.Words.{Stands}
 use Rattle.bucket_test.specs.Turn.{startRecord, marked, walkedOn, turnRecord, turnPart, recordSound}
-use Rattle.bucket_test.specs.Demand3.{Marks, Stands}
+use Rattle.bucket_test.specs.Demand3.{Marks}
 use Rattle.bucket_test.specs.declared.Threshold.{Threshold}
+use Rattle.bucket_test.proofs.TurningLaws.{stands}
 
 module _ (a : ℕ) (E : ℕ → ℕ) where
   -- the row of the last step walked, with the mark m after n draws; the record and the part that hold it
@@ -120,18 +122,9 @@ module _ (a : ℕ) (E : ℕ → ℕ) where
 
     -- ---- a record and its part are those of a step
 
-    pub stands-at : (m : Mark) (n : ℕ) → length (partFor m n) ≡ wide → Stands a E (lastStep m n) (recordFor m n) (partFor m n)
+    pub stands-at : (m : Mark) (n : ℕ) → length (partFor m n) ≡ wide → Stands (walk a E (lastStep m n)) (recordFor m n .walked) (partFor m n)
     unfolding recordFor partFor
-    stands-at m n size =
-        let w = record-walk a E threshold spends (lastStep m n) in
-        record {
-          lower-is = w .0;
-          upper-is = w .1;
-          over-is = w .2;
-          under-is = w .3;
-          size = size;
-          masses = λ j l. padded-word (rowAt m n .masses) j ∙ sym (mass-word a E threshold spends (lastStep m n) j);
-        }
+    stands-at m n size = stands (same a threshold E spends (lastStep m n)) size
 
     -- ---- one more draw, where the row was not wide
 

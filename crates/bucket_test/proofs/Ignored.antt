@@ -11,7 +11,7 @@ use Rattle.bucket_test.specs.Tests.{eq?}
 use Rattle.bucket_test.specs.Plan.{thresholdAt, allowanceAt, leftAt, rightAt, spendingOf, rule1, aboveBefore, rule2, rule3, rule4, permitted, bucketFits, rule5, goesOnAt, rule6, planRefusal}
 use Rattle.bucket_test.specs.Words.{wordsFit}
 use Rattle.bucket_test.specs.Answers.{lowOf, highOf, anyWide, contains, firstBucket, answerBy, answerOf}
-use Rattle.bucket_test.specs.Draw.{startState, startWords, beginRefusal, begunBy, begun, stateSound, drawRefusal, nextState, nextWords, drawnBy, drawn, reportBy, report, drawnAll}
+use Rattle.bucket_test.specs.Draw.{Outcome, startState, startWords, beginRefusal, begunBy, begun, stateSound, drawRefusal, nextState, nextWords, drawnBy, drawn, reportBy, report, drawnOn}
 use Rattle.bucket_test.specs.Ignored.{SameTest, IgnoredTheorem}
 use Rattle.bucket_test.specs.declared.Threshold.{Threshold}
 use Rattle.bucket_test.specs.declared.State.{State}
@@ -146,10 +146,10 @@ module _ (p : Plan) (thresholds allowances left right : List ℕ)
           go zero = rw (state-same, words-same, answer-same (nextState p s words d))
           go (suc r) = refl
 
-  run-same : (s : State) (words ds : List ℕ) → drawnAll q s words ds ≡ drawnAll p s words ds
-  unfolding drawnAll
-  run-same s words [] = rw (report-same s)
-  run-same s words (d ∷ ds) = rw (drawn-same s words d, run-same (drawn p s words d .state) (drawn p s words d .words) ds)
+  run-same : (o : Outcome) (ds : List ℕ) → drawnOn q o ds ≡ drawnOn p o ds
+  unfolding drawnOn
+  run-same o [] = refl
+  run-same o (d ∷ ds) = rw (drawn-same (o .state) (o .words) d, run-same (drawn p (o .state) (o .words) d) ds)
 
   same : SameTest p q
   same = record {

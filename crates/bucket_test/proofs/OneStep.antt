@@ -19,21 +19,21 @@ use Rattle.walk.specs.declared.Mark.the-variants.{Open, Above, AtMost}
 use Rattle.walk.specs.declared.Walked.{Walked}
 use Rattle.walk.proofs.WalkFacts.{step-facts}
 use Rattle.walk.proofs.Checks.{padded-length, checked, narrow}
-use Rattle.walk.proofs.Seams.{padded-word, record-same, word-same, judged-same, judged-on, judged-open}
+use Rattle.walk.proofs.Seams.{judged-same, judged-on, judged-open}
 use Rattle.bucket_test.specs.Tests.{unless, firstRefusal}
 use Rattle.bucket_test.specs.Plan.{thresholdAt, spendingOf, planRefusal, Accepted}
-use Rattle.bucket_test.specs.Words.{partAt, wordsFit}
+use Rattle.bucket_test.specs.Words.{partAt, wordsFit, Stands}
 use Rattle.bucket_test.specs.Turn.{noRecord, recordAt, marked, walkedOn, turnRecord, turnPart}
 use Rattle.bucket_test.specs.Answers.{answerOf, isEnding}
 use Rattle.bucket_test.specs.Draw.{stateSound, drawRefusal, nextState, nextWords}
-use Rattle.bucket_test.specs.OneStep.{StandsAt, MarkedAt, steppedAt, OneStep, OneStepTheorem}
+use Rattle.bucket_test.specs.OneStep.{MarkedAt, steppedAt, OneStep, OneStepTheorem}
 use Rattle.bucket_test.specs.declared.Threshold.{Threshold}
 use Rattle.bucket_test.specs.declared.State.{State}
 use Rattle.bucket_test.specs.declared.Plan.{Plan}
 use Rattle.bucket_test.proofs.PlaceLaws.{le-or-lt, eq?-sound}
 use Rattle.bucket_test.proofs.PlaceLists.{over-length, over-get, over-drop, join-length, join-part}
 use Rattle.bucket_test.proofs.Rules.{accepted, threshold-ok, spends}
-use Rattle.bucket_test.proofs.TurningLaws.{part-length}
+use Rattle.bucket_test.proofs.TurningLaws.{part-length, stands}
 use Rattle.bucket_test.proofs.DrawingLaws.{sound-at, thin-at, drawn-by}
 
 -- ---- an open threshold that refusal 11 lets through and that is not wide
@@ -50,21 +50,11 @@ module _ (a : ℕ) (threshold : a ≤ million) (E : ℕ → ℕ) (spends : IsSpe
   facts : StepFacts a (E (suc n)) n (rowOf w part)
   facts = step-facts a threshold E spends n (rowOf w part) (checked E n S w part size sound .sound) .0
 
-  next-stands : StandsAt stepped (recordOf next) (padded (next .masses))
-  next-stands =
-      let r = record-same (facts .same) in
-      record {
-        lower-is = r .0;
-        upper-is = r .1;
-        over-is = r .2;
-        under-is = r .3;
-        size = padded-length (next .masses) (omega (arith, narrow E n S w part size sound thin, facts .moves));
-        masses = λ j l. padded-word (next .masses) j ∙ sym (word-same (facts .same) j);
-        zeros = λ j l. padded-word (next .masses) j ∙ List·getD-eq-default (next .masses) 0 (omega (arith, facts .same));
-      }
+  next-stands : Stands stepped (recordOf next) (padded (next .masses))
+  next-stands = stands (facts .same) (padded-length (next .masses) (omega (arith, narrow E n S w part size sound thin, facts .moves)))
 
   next-walks : (ones : ℕ)
-      → StandsAt stepped (recordOf next) (padded (next .masses)) × MarkedAt stepped (suc n) ones (marked (suc n) ones (recordOf next))
+      → Stands stepped (recordOf next) (padded (next .masses)) × MarkedAt stepped (suc n) ones (marked (suc n) ones (recordOf next))
   unfolding marked
   next-walks ones =
       let e = judged-same (facts .same) (suc n) ones in (
@@ -127,7 +117,7 @@ module _ (p : Plan) (s : State) (ws : List ℕ) (d : ℕ) where
 
       -- an open one walks
       open-walks : recordAt s i .mark ≡ Open
-          → StandsAt (steppedAt p s ws i) (recordTurned i Open .walked) (partTurned i Open)
+          → Stands (steppedAt p s ws i) (recordTurned i Open .walked) (partTurned i Open)
           × MarkedAt (steppedAt p s ws i) (suc (s .n)) (s .ones + d) (recordTurned i Open .mark)
       unfolding steppedAt walkedOn
       open-walks is =

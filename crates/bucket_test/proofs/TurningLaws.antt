@@ -5,11 +5,16 @@ use Prim.Native.Nat.{ℕ, _+_, _*_, _-_, _≤_, _<_}
 use native.Mathlib.Nat.{mul-zero, mul-suc, mul-le-mul-left}
 use native.Mathlib.Numerals.{add-one}
 use native.Mathlib.Omega.{arith}
-use lib.ListN.{length, take, drop, set, getD, length-append, length-drop, drop-of-length-le}
+use lib.ListN.{length, take, drop, set, getD, length-append, length-drop, drop-of-length-le, List·getD-eq-default}
 use lib.Seq.{length-take-le, take-at, drop-at, drop-drop}
 use Rattle.walk.specs.Units.{wide}
+use Rattle.walk.specs.Walk.{Walk}
+use Rattle.walk.specs.Row.{Row}
+use Rattle.walk.specs.Record.{recordOf, padded}
+use Rattle.walk.specs.Facts.{Same}
+use Rattle.walk.proofs.Seams.{padded-word, record-same, word-same}
 use Rattle.bucket_test.specs.Tests.{overTo, joinTo}
-use Rattle.bucket_test.specs.Words.{partAt}
+use Rattle.bucket_test.specs.Words.{partAt, Stands}
 use Rattle.bucket_test.specs.Turn.{turnRecord, turnPart, MayTurn}
 use Rattle.bucket_test.specs.declared.Threshold.{Threshold}
 use Rattle.bucket_test.proofs.PlaceLists.{over-now, over-put}
@@ -80,3 +85,18 @@ module _ (a n ones : ℕ) {e e′ : ℕ} {t t′ : Threshold} {part part′ : Li
 
   pub same-part : {l : List ℕ} → l ≡ turnPart a e n ones (t .mark) t part → l ≡ turnPart a e′ n ones (t′ .mark) t′ part′
   same-part h = h ∙ rw (p, q, r)
+
+-- ---- a row that is the walk w: its record and its padded masses stand at w
+
+pub stands : {w : Walk} {r : Row} → Same w r → length (padded (r .masses)) ≡ wide → Stands w (recordOf r) (padded (r .masses))
+stands {w} {r} s size =
+    let e = record-same s in
+    record {
+      lower-is = e .0;
+      upper-is = e .1;
+      over-is = e .2;
+      under-is = e .3;
+      size = size;
+      masses = λ j l. padded-word (r .masses) j ∙ sym (word-same s j);
+      zeros = λ j l. padded-word (r .masses) j ∙ List·getD-eq-default (r .masses) 0 (omega (arith, s));
+    }

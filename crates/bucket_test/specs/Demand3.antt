@@ -3,22 +3,21 @@ use mathlib.Core.Path.{_≡_}
 use mathlib.Core.Logic.{_↔_, _⊎_}
 use mathlib.Core.Bool.{Bool, true}
 use mathlib.Core.List.{List, [], _∷_}
-use Prim.Native.Nat.{ℕ, _+_, _*_, _^_, _≤_, _<_}
-use lib.ListN.{length, getD}
+use Prim.Native.Nat.{ℕ, _*_, _^_, _≤_, _<_}
+use lib.ListN.{length}
 use Rattle.walk.specs.Units.{M, million, wide}
-use Rattle.walk.specs.Walk.{walk, lower, NoWideBefore}
+use Rattle.walk.specs.Walk.{walk, NoWideBefore}
 use Rattle.walk.specs.Strings.{Draws, ones, Side, settled, lastStep}
 use Rattle.walk.specs.Facts.{WalkFacts}
 use Rattle.walk.specs.Chance.{Meets, meets?, meeting, spent, Bounds}
 use Rattle.walk.specs.declared.Mark.{Mark}
 use Rattle.walk.specs.declared.Mark.the-variants.{Open}
 use Rattle.bucket_test.specs.Plan.{thresholdAt, spendingOf, Accepted}
-use Rattle.bucket_test.specs.Words.{partAt}
+use Rattle.bucket_test.specs.Words.{partAt, Stands}
 use Rattle.bucket_test.specs.Turn.{recordAt}
 use Rattle.bucket_test.specs.Answers.{answerOf, refusalOf}
 use Rattle.bucket_test.specs.Draw.{Outcome}
 use Rattle.bucket_test.specs.Carried.{carried, hasEnded, taken}
-use Rattle.bucket_test.specs.declared.Threshold.{Threshold}
 use Rattle.bucket_test.specs.declared.Plan.{Plan}
 use Rattle.bucket_test.specs.declared.Answer.the-variants.{Open as OpenAnswer}
 
@@ -29,15 +28,6 @@ module _ (a : ℕ) (E : ℕ → ℕ) where
   pub record Marks (s : Draws) (m : Mark) : Type 0 where
     pub settles : (side : Side) (t : ℕ) → (m ≡ settled side t) ↔ Meets a E side t s
     pub else-open : (m ≡ Open) ↔ ((side : Side) (t : ℕ) → ¬ (Meets a E side t s))
-
-  -- its record and its part hold boundaries, spent masses and masses of step t; word j is the mass at count lower + 1 + j
-  pub record Stands (t : ℕ) (r : Threshold) (part : List ℕ) : Type 0 where
-    pub lower-is : r .walked .lower ≡ lower (walk a E t)
-    pub upper-is : r .walked .upper ≡ walk a E t .upper
-    pub over-is : r .walked .over ≡ walk a E t .over
-    pub under-is : r .walked .under ≡ walk a E t .under
-    pub size : length part ≡ wide
-    pub masses : (j : ℕ) → j < wide → getD part j 0 ≡ walk a E t .mass (walk a E t .first + j)
 
 -- ---- the claim on the whole list and all strings
 
@@ -64,8 +54,8 @@ module _ (p : Plan) (words : List ℕ) where
     pub ones-is : carried p words ds .state .ones ≡ ones (taken p words ds)
     pub marks : (i : ℕ) → i < p .count → Marks (thresholdAt p i) (spendingOf p i) (taken p words ds) (recordAt (carried p words ds .state) i .mark)
     pub stands : (i : ℕ) → i < p .count
-        → Stands (thresholdAt p i) (spendingOf p i) (lastStep (recordAt (carried p words ds .state) i .mark) (length (taken p words ds)))
-        (recordAt (carried p words ds .state) i) (partAt i (carried p words ds .words))
+        → Stands (walk (thresholdAt p i) (spendingOf p i) (lastStep (recordAt (carried p words ds .state) i .mark) (length (taken p words ds))))
+        (recordAt (carried p words ds .state) i .walked) (partAt i (carried p words ds .words))
     -- no threshold walked past its first wide step
     pub not-continued : (i : ℕ) → i < p .count
         → NoWideBefore (thresholdAt p i) (spendingOf p i) (lastStep (recordAt (carried p words ds .state) i .mark) (length (taken p words ds)))

@@ -4,7 +4,7 @@ use mathlib.Core.List.{List}
 use Prim.Native.Nat.{ℕ, _<_}
 use Rattle.bucket_test.specs.Plan.{thresholdAt, allowanceAt, leftAt, rightAt, planRefusal}
 use Rattle.bucket_test.specs.Answers.{answerOf}
-use Rattle.bucket_test.specs.Draw.{begun, drawn, report, drawnAll}
+use Rattle.bucket_test.specs.Draw.{Outcome, begun, drawn, report, drawnOn}
 use Rattle.bucket_test.specs.declared.State.{State}
 use Rattle.bucket_test.specs.declared.Plan.{Plan}
 
@@ -22,7 +22,7 @@ pub record SameTest (p q : Plan) : Type 0 where
   pub report-same : (s : State) → report q s ≡ report p s
   pub begun-same : (words : List ℕ) → begun q words ≡ begun p words
   pub drawn-same : (s : State) (words : List ℕ) (d : ℕ) → drawn q s words d ≡ drawn p s words d
-  pub run-same : (s : State) (words ds : List ℕ) → drawnAll q s words ds ≡ drawnAll p s words ds
+  pub run-same : (o : Outcome) (ds : List ℕ) → drawnOn q o ds ≡ drawnOn p o ds
 
 -- of every two plans
 abbrev pub IgnoredTheorem : Type 0

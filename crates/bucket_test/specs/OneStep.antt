@@ -2,34 +2,22 @@
 -- handed in (01, "Taking a draw"). Definitions only.
 use mathlib.Core.Path.{_≡_}
 use mathlib.Core.List.{List}
-use Prim.Native.Nat.{ℕ, suc, _+_, _*_, _≤_, _<_}
-use lib.ListN.{length, drop, getD}
+use Prim.Native.Nat.{ℕ, suc, _+_, _*_, _<_}
+use lib.ListN.{length, drop}
 use Rattle.walk.specs.Units.{wide}
-use Rattle.walk.specs.Walk.{Walk, lower, stepWalk}
+use Rattle.walk.specs.Walk.{Walk, stepWalk}
 use Rattle.walk.specs.Strings.{Side, Reaches, settled}
 use Rattle.walk.specs.Record.{rowOf}
 use Rattle.walk.specs.Facts.{asWalk}
 use Rattle.walk.specs.declared.Mark.{Mark}
 use Rattle.walk.specs.declared.Mark.the-variants.{Open}
-use Rattle.walk.specs.declared.Walked.{Walked}
 use Rattle.bucket_test.specs.Plan.{thresholdAt, spendingOf}
-use Rattle.bucket_test.specs.Words.{partAt}
+use Rattle.bucket_test.specs.Words.{partAt, Stands}
 use Rattle.bucket_test.specs.Turn.{recordAt}
 use Rattle.bucket_test.specs.Answers.{answerOf}
 use Rattle.bucket_test.specs.Draw.{Outcome, drawRefusal, drawn}
 use Rattle.bucket_test.specs.declared.State.{State}
 use Rattle.bucket_test.specs.declared.Plan.{Plan}
-
--- a record and a part hold the boundaries, spent masses and masses of the walk w: word j is the mass at count lower + 1 + j, and words after
--- the live counts are zero
-pub record StandsAt (w : Walk) (r : Walked) (part : List ℕ) : Type 0 where
-  pub lower-is : r .lower ≡ lower w
-  pub upper-is : r .upper ≡ w .upper
-  pub over-is : r .over ≡ w .over
-  pub under-is : r .under ≡ w .under
-  pub size : length part ≡ wide
-  pub masses : (j : ℕ) → j < wide → getD part j 0 ≡ w .mass (w .first + j)
-  pub zeros : (j : ℕ) → w .upper ≤ w .first + j → getD part j 0 ≡ 0
 
 -- the mark m is that of S ones against the boundaries of w at step n: above where S is at or over the upper one, at most where it is at or
 -- under the lower one, else open
@@ -47,7 +35,7 @@ module _ (p : Plan) (s : State) (words : List ℕ) where
     pub n-is : o .state .n ≡ suc (s .n)
     pub ones-is : o .state .ones ≡ s .ones + d
     pub open-walks : (i : ℕ) → i < p .count → recordAt s i .mark ≡ Open
-        → StandsAt (steppedAt i) (recordAt (o .state) i .walked) (partAt i (o .words))
+        → Stands (steppedAt i) (recordAt (o .state) i .walked) (partAt i (o .words))
         × MarkedAt (steppedAt i) (suc (s .n)) (s .ones + d) (recordAt (o .state) i .mark)
     pub settled-stays : (i : ℕ) → i < p .count → ¬ (recordAt s i .mark ≡ Open)
         → (recordAt (o .state) i ≡ recordAt s i) × (partAt i (o .words) ≡ partAt i words)

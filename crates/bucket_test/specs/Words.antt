@@ -1,9 +1,12 @@
 -- The words lent to a test (01, "Words lent to a test").
+use mathlib.Core.Path.{_≡_}
 use mathlib.Core.Bool.{Bool}
 use mathlib.Core.List.{List}
-use Prim.Native.Nat.{ℕ, _*_}
-use lib.ListN.{length, take, drop}
+use Prim.Native.Nat.{ℕ, _+_, _*_, _≤_, _<_}
+use lib.ListN.{length, take, drop, getD}
 use Rattle.walk.specs.Units.{wide}
+use Rattle.walk.specs.Walk.{Walk, lower}
+use Rattle.walk.specs.declared.Walked.{Walked}
 use Rattle.bucket_test.specs.Tests.{eq?}
 use Rattle.bucket_test.specs.declared.Plan.{Plan}
 
@@ -14,3 +17,14 @@ partAt i words = take wide (drop (wide * i) words)
 -- the number of words is 769 × K (refusal 8)
 unfoldable pub wordsFit : Plan → List ℕ → Bool
 wordsFit p words = eq? (length words) (wide * p .count)
+
+-- a record and a part hold the boundaries, spent masses and masses of the walk w: word j is the mass at count lower + 1 + j, and words after
+-- the live counts are zero
+pub record Stands (w : Walk) (r : Walked) (part : List ℕ) : Type 0 where
+  pub lower-is : r .lower ≡ lower w
+  pub upper-is : r .upper ≡ w .upper
+  pub over-is : r .over ≡ w .over
+  pub under-is : r .under ≡ w .under
+  pub size : length part ≡ wide
+  pub masses : (j : ℕ) → j < wide → getD part j 0 ≡ w .mass (w .first + j)
+  pub zeros : (j : ℕ) → w .upper ≤ w .first + j → getD part j 0 ≡ 0

@@ -117,12 +117,6 @@ module _ (a : ℕ) (E : ℕ → ℕ) where
     unfolding verdict firstAt upperAt
     verdict-record t S = judged-same (same a threshold E spends t) t S
 
-    -- the record of a row holds the walk's boundaries and spent masses
-    pub record-walk : (t : ℕ)
-        → (recordOf (rows a E t) .lower ≡ lower (walk a E t)) × (recordOf (rows a E t) .upper ≡ walk a E t .upper)
-        × (recordOf (rows a E t) .over ≡ walk a E t .over) × (recordOf (rows a E t) .under ≡ walk a E t .under)
-    record-walk t = record-same (same a threshold E spends t)
-
     -- an open mark: the ones lie strictly between the boundaries
     inside : (t S : ℕ) → verdictOf t S ≡ Open → (rows a E t .first ≤ S) × (S < upper (rows a E t))
     inside t S e =
@@ -150,7 +144,3 @@ module _ (a : ℕ) (E : ℕ → ℕ) where
         go : (t : ℕ) → (suc t ≡ suc n) ⊎ (suc t < suc n) → ¬ (length (rows a E t .masses) ≡ wide)
         go t (inl q) e = let r : t ≡ n = omega arith in here (rw r at e)
         go t (inr l) e = not-wide a threshold E spends n .0 none t (omega arith) e
-
-    -- word j of a row is the mass at count first + j
-    pub mass-word : (t j : ℕ) → walk a E t .mass (walk a E t .first + j) ≡ getD (rows a E t .masses) j 0
-    mass-word t = word-same (same a threshold E spends t)
