@@ -6,12 +6,15 @@ use bucket_test::drawing::draw_all;
 use console::program::last_line;
 use stored_plan::reading::read_plan;
 
+// A missing input has a line of its own: the program would print the one of an empty input.
 fn trial(plan: &[u8], input: &[u8], words: &mut [u64]) {
     let fd = os::open_read(input);
-    console::program::run(plan, fd, libc::STDOUT_FILENO, words);
-    if 0 <= fd {
-        libc::close(fd);
+    if fd < 0 {
+        io::write_all(libc::STDOUT_FILENO, b"no input\n");
+        return;
     }
+    console::program::run(plan, fd, libc::STDOUT_FILENO, words);
+    libc::close(fd);
 }
 
 // One draw more to plan F, which five ones have ended: no program hands one over.
