@@ -1,6 +1,7 @@
-//! What the rules settle of one call, for any plan, state, words and draw. It shares nothing with the other modules' walks.
+//! What the rules settle of one call, for any plan, state, words and draw; with a walk of its own.
 
-use crate::host::{draft_of, Plan, Record, Report, State, ABOVE, AT_MOST, CROSSED, DECIDED, OPEN, REFUSED, SPENT, WIDE};
+use crate::host::{draft_of, Plan, Record, Report, State};
+use crate::host::{ABOVE, AT_MOST, CROSSED, DECIDED, OPEN, REFUSED, SPENT, WIDE};
 use crate::plan::{read, Bucket, MILLION, WHOLE};
 
 pub const PART: usize = 769;
@@ -24,7 +25,7 @@ pub const CLAUSES: [&str; 14] = [
     "mass under M",
 ];
 
-/// Never broken alone: S is then at a boundary of every open threshold, and one is open, else the answer ends the test.
+/// Never broken alone: each open threshold breaks another with it, and where none is open the answer ends the test.
 pub const NEVER_ALONE: [usize; 2] = [1, 6];
 /// At their limit the answer is `spent` or `wide`: refusal 10.
 pub const NEVER_TAKEN: [usize; 2] = [0, 7];
@@ -92,7 +93,7 @@ pub fn live<'a>(r: &Record, part: &'a [u64]) -> &'a [u64] {
     &part[..(apart(r) - 1).clamp(0, part.len() as i128) as usize]
 }
 
-/// For each clause how far inside its limit the state is: 0 at the limit, below 0 broken; the least over the records it speaks of.
+/// How far inside each clause's limit the state is, the least over its records: 0 at the limit, below 0 broken.
 pub fn slacks(p: &Plan, s: &State, words: &[u64]) -> [Option<i128>; 14] {
     let mut out = [None; 14];
     let mut note = |clause: usize, slack: i128| {
@@ -130,7 +131,8 @@ fn spoiled(p: &Plan, s: &State, words: &[u64], fault: Fault) -> bool {
         Fault::Limit(moved, by) if moved == clause => by,
         _ => 0,
     };
-    slacks(p, s, words).into_iter().enumerate().any(|(clause, slack)| slack.is_some_and(|slack| slack < limit(clause)))
+    let mut slacks = slacks(p, s, words).into_iter().enumerate();
+    slacks.any(|(clause, slack)| slack.is_some_and(|slack| slack < limit(clause)))
 }
 
 /// One step of a walk to step t: masses by count, boundaries searched over their printed ranges.
@@ -141,7 +143,8 @@ fn walk(a: u128, limit: u128, t: i64, r: &mut Record, part: &mut [u64], fault: F
         true => part.get((s - lower - 1) as usize).copied().unwrap_or(0) as u128,
         false => 0,
     };
-    let new: Vec<u128> = counts.iter().map(|s| (old(*s) * (MILLION - a) + old(*s - 1) * a).div_ceil(MILLION)).collect();
+    let mass = |s: &i64| (old(*s) * (MILLION - a) + old(*s - 1) * a).div_ceil(MILLION);
+    let new: Vec<u128> = counts.iter().map(mass).collect();
     let mut sums = vec![0u128];
     for mass in &new {
         sums.push(sums[sums.len() - 1] + mass);

@@ -10,6 +10,7 @@ mod host;
 mod judge;
 mod plan;
 mod rng;
+mod scenes;
 mod selfcheck;
 mod sequential;
 mod spoiled;

@@ -1,11 +1,12 @@
 //! The library's entries on good and spoiled plans, states, words and draws, each outcome held to `judge`.
 
-use crate::cases::{any_plan, Draft};
+use crate::cases::Draft;
 use crate::examples::crossing_plan;
-use crate::host::{self, draft_of, plan_of, Plan, Record, State, ABOVE, AT_MOST, CROSSED, DECIDED, OPEN, REFUSED, SPENT, WIDE};
-use crate::judge::{self, live, slacks, spending, Fault, CLAUSES, NEVER_ALONE, NEVER_TAKEN, PART, WORD_LIMIT};
-use crate::plan::{read, LARGEST_ALLOWANCE, WHOLE};
+use crate::host::{self, draft_of, plan_of, Plan, State, CROSSED, DECIDED, OPEN, REFUSED, SPENT, WIDE};
+use crate::judge::{self, slacks, Fault, CLAUSES, NEVER_ALONE, NEVER_TAKEN, PART};
+use crate::plan::read;
 use crate::rng::Rng;
+use crate::scenes::{good_plan, made_up, spoil, Scene};
 use std::collections::BTreeMap;
 use std::time::Instant;
 
@@ -14,31 +15,6 @@ const SPOILS: u64 = 24;
 /// Every so many-th spoiled draw is also judged with each mistake.
 const MISTAKEN: u64 = 12;
 const SHOWN: u64 = 3;
-
-/// All that one draw is handed.
-#[derive(Clone)]
-struct Scene {
-    plan: Plan,
-    state: State,
-    words: Vec<u64>,
-    draw: u8,
-}
-
-impl Scene {
-    fn k(&self) -> usize {
-        (self.plan.count as usize).clamp(1, 10)
-    }
-
-    fn part(&mut self, i: usize) -> &mut [u64] {
-        let len = self.words.len();
-        &mut self.words[(PART * i).min(len)..(PART * (i + 1)).min(len)]
-    }
-
-    fn live_of(&mut self, i: usize) -> usize {
-        let r = self.state.records[i];
-        live(&r, self.part(i)).len()
-    }
-}
 
 #[derive(Default)]
 struct Tally {
@@ -115,14 +91,14 @@ impl Tally {
             let live = scene.live_of(i);
             let settled = scene.state.records[i].mark != OPEN;
             if !settled && scene.part(i)[live..].iter().any(|w| *w != 0) {
-                self.count("taken over garbage", "behind the live words".into());
+                self.count(OVER_GARBAGE, "behind the live words".into());
             }
             if settled && scene.part(i).iter().all(|w| *w != 0) {
-                self.count("taken over garbage", "settled words".into());
+                self.count(OVER_GARBAGE, "settled words".into());
             }
         }
         if scene.state.records[k..].iter().any(|r| r.over != 0) {
-            self.count("taken over garbage", "records past K".into());
+            self.count(OVER_GARBAGE, "records past K".into());
         }
     }
 }
@@ -148,14 +124,17 @@ fn mistakes() -> Vec<Fault> {
     out
 }
 
+fn name(fault: Fault) -> String {
+    match fault {
+        Fault::Limit(clause, by) => format!("'{}' by {by}", CLAUSES[clause]),
+        other => format!("{other:?}"),
+    }
+}
+
 fn shown(scene: &Scene, got: &State, expected: &State, word: Option<usize>) -> String {
-    format!(
-        "draw {} of {} words\n  {:?}\n  handed in {:?}\n  library   {got:?}\n  expected  {expected:?}\n  first word that differs: {word:?}",
-        scene.draw,
-        scene.words.len(),
-        scene.plan,
-        scene.state
-    )
+    let call = format!("draw {} of {} words\n  {:?}", scene.draw, scene.words.len(), scene.plan);
+    let states = format!("handed in {:?}\n  library   {got:?}\n  expected  {expected:?}", scene.state);
+    format!("{call}\n  {states}\n  first word that differs: {word:?}")
 }
 
 /// One draw by both; the outcome is the library's.
@@ -180,7 +159,7 @@ fn compare_mistakes(tally: &mut Tally, scene: &Scene, outcome: &(State, Vec<u64>
         let mut words = scene.words.clone();
         let wrong = judge::draw(&scene.plan, &scene.state, &mut words, scene.draw, fault);
         let noticed = (wrong, words) != *outcome;
-        *tally.noticed.entry(format!("{fault:?}")).or_default() += noticed as u64;
+        *tally.noticed.entry(name(fault)).or_default() += noticed as u64;
     }
 }
 
@@ -222,7 +201,7 @@ fn compare_stored(tally: &mut Tally, rng: &mut Rng, plan: Plan) {
     compare_read(tally, rng, &plan, form);
 }
 
-/// Reads the form, the form one byte short and one over, cut to a header and below, and with a count or an offset replaced.
+/// Reads the form; one byte short, one over, cut to a header and below, and with a count or an offset replaced.
 fn compare_read(tally: &mut Tally, rng: &mut Rng, plan: &Plan, mut form: Vec<u8>) {
     form.resize(form.len().max(16), 0);
     let longer = [form.clone(), vec![0]].concat();
@@ -241,41 +220,6 @@ fn compare_read(tally: &mut Tally, rng: &mut Rng, plan: &Plan, mut form: Vec<u8>
     }
 }
 
-// ---- good scenes
-
-fn garbage(rng: &mut Rng) -> Record {
-    let mark = rng.below(3) as u32;
-    Record {
-        mark,
-        step: if mark == OPEN { 0 } else { rng.next() as u32 },
-        lower: rng.next() as i32,
-        upper: rng.next() as u32,
-        over: rng.next(),
-        under: rng.next(),
-    }
-}
-
-fn plan_past_counts(rng: &mut Rng, plan: &mut Plan) {
-    for i in plan.count as usize..10 {
-        plan.thresholds[i] = rng.next() as u32;
-        plan.allowances[i] = rng.next();
-    }
-    for j in plan.buckets as usize..16 {
-        plan.left[j] = rng.next() as u32;
-        plan.right[j] = rng.next() as u32;
-    }
-}
-
-fn good_plan(rng: &mut Rng) -> Plan {
-    let horizon = if rng.chance(1, 3) { rng.scale(1, 300) } else { rng.scale(1, 50_000) };
-    let least = rng.pick(&[1, 1, 1000]);
-    let mut plan = plan_of(&any_plan(rng, least, horizon as u32));
-    if rng.chance(1, 2) {
-        plan_past_counts(rng, &mut plan);
-    }
-    plan
-}
-
 /// A test carried from its beginning for some draws, each compared.
 fn carried(tally: &mut Tally, rng: &mut Rng, plan: Plan) -> Scene {
     let words = vec![rng.next(); PART * plan.count as usize];
@@ -292,191 +236,6 @@ fn carried(tally: &mut Tally, rng: &mut Rng, plan: Plan) -> Scene {
     }
     scene
 }
-
-/// Boundaries, spent masses and words that pass refusal 11 after n draws with so many ones, and now and then wide.
-fn made_up_record(rng: &mut Rng, s: &State, limit: u64, part: &mut [u64]) -> Record {
-    let (n, ones) = (s.n as i64, s.ones as i64);
-    let widest = rng.pick(&[769, 769, 769, 770]);
-    let far = (ones - widest + 2).max(-1);
-    let lower = if rng.chance(1, 3) { far } else { rng.range(0, (ones - 1 - far) as u64) as i64 + far };
-    let most = (n + 1).min(lower + widest);
-    let upper = if rng.chance(1, 3) { most } else { rng.range(0, (most - ones - 1) as u64) as i64 + ones + 1 };
-    let mut spent = || if rng.chance(1, 2) { rng.range(0, limit) } else { rng.pick(&[0, limit, limit.saturating_sub(1)]) };
-    let (over, under) = (spent(), spent());
-    let live = (upper - lower - 1) as usize;
-    let style = rng.below(3);
-    let most = rng.pick(&[1 << 20, 1 << 36, WORD_LIMIT as u64]);
-    for word in part.iter_mut() {
-        *word = if style == 0 { 0 } else { rng.range(0, most) };
-    }
-    if style == 1 {
-        part[live..].fill(0);
-    }
-    let held = rng.below(live as u64) as usize;
-    part[held] = part[held].max(WHOLE as u64 - over - under);
-    Record { mark: OPEN, step: 0, lower: lower as i32, upper: upper as u32, over, under }
-}
-
-/// A state that no test was carried to, but that passes refusal 11.
-fn made_up(rng: &mut Rng, plan: Plan) -> Scene {
-    let last = plan.horizon as u64 - 1;
-    let n = if rng.chance(1, 4) { last } else { rng.range(0, last) };
-    let ones = rng.pick(&[0, n, n / 2, n / 2]);
-    let mut state = State { n: n as u32, ones: ones as u32, ..State::default() };
-    let mut words = vec![0; PART * plan.count as usize];
-    let settled = rng.pick(&[0, 1, 3]);
-    for i in 0..10 {
-        let limit = spending(&plan, i, state.n) as u64;
-        state.records[i] = match i < plan.count as usize {
-            true => made_up_record(rng, &state, limit, &mut words[PART * i..PART * (i + 1)]),
-            false => garbage(rng),
-        };
-        if i < plan.count as usize && n > 0 && rng.chance(settled, 6) {
-            state.records[i] = Record { mark: rng.pick(&[ABOVE, AT_MOST]), step: rng.range(1, n) as u32, ..garbage(rng) };
-        }
-    }
-    Scene { plan, state, words, draw: rng.below(2) as u8 }
-}
-
-// ---- spoils
-
-fn spoil_counts(rng: &mut Rng, scene: &mut Scene, i: usize) {
-    let (n, horizon) = (scene.state.n, scene.plan.horizon);
-    let r = scene.state.records[i];
-    if rng.chance(1, 2) {
-        let more = n.wrapping_add(1);
-        scene.state.n = rng.pick(&[horizon, horizon.wrapping_add(1), horizon.wrapping_sub(1), u32::MAX, 0, more, n.wrapping_sub(1)]);
-    } else {
-        let lower = r.lower as u32;
-        let near = [n, n.wrapping_add(1), 0, u32::MAX, r.upper, r.upper.wrapping_sub(1), lower, lower.wrapping_add(1)];
-        scene.state.ones = rng.pick(&near);
-    }
-}
-
-fn spoil_mark(rng: &mut Rng, scene: &mut Scene, i: usize) {
-    let n = scene.state.n;
-    let r = &mut scene.state.records[i];
-    r.mark = rng.pick(&[OPEN, ABOVE, ABOVE, AT_MOST, AT_MOST]);
-    r.step = match r.mark {
-        OPEN => 0,
-        _ => rng.pick(&[0, 1, n, n.wrapping_add(1), u32::MAX]),
-    };
-}
-
-fn spoil_boundary(rng: &mut Rng, scene: &mut Scene, i: usize) {
-    let (n, ones) = (scene.state.n, scene.state.ones);
-    let r = &mut scene.state.records[i];
-    let (lower, upper) = (r.lower as u32, r.upper);
-    if rng.chance(1, 2) {
-        let apart = rng.pick(&[1, 2, 769, 770, 771, 771]);
-        let near = [-2, -1, i32::MIN, i32::MAX, ones.wrapping_sub(1) as i32, ones as i32, upper.wrapping_sub(apart) as i32];
-        r.lower = rng.pick(&near);
-    } else {
-        let near = [0, n.wrapping_add(1), n.wrapping_add(2), u32::MAX, ones, ones.wrapping_add(1)];
-        let apart = rng.pick(&[1, 2, 769, 770, 771, 771]);
-        r.upper = if rng.chance(1, 2) { rng.pick(&near) } else { lower.wrapping_add(apart) };
-    }
-}
-
-fn spoil_spent(rng: &mut Rng, scene: &mut Scene, i: usize) {
-    let limit = match scene.plan.delay {
-        0 => 0,
-        _ => spending(&scene.plan, i, scene.state.n) as u64,
-    };
-    let spent = rng.pick(&[limit, limit.wrapping_add(1), u64::MAX, 0]);
-    let r = &mut scene.state.records[i];
-    if rng.chance(1, 2) {
-        r.over = spent;
-    } else {
-        r.under = spent;
-    }
-}
-
-fn spoil_word(rng: &mut Rng, scene: &mut Scene, i: usize) {
-    let live = scene.live_of(i);
-    let limit = WORD_LIMIT as u64;
-    let word = rng.pick(&[limit, limit, limit + 1, limit + 1, u64::MAX, 0]);
-    if live > 0 {
-        let any = rng.below(live as u64) as usize;
-        scene.part(i)[rng.pick(&[0, live - 1, any])] = word;
-    }
-}
-
-/// The whole mass at M, or one below.
-fn spoil_mass(rng: &mut Rng, scene: &mut Scene, i: usize) {
-    let r = scene.state.records[i];
-    let live = scene.live_of(i);
-    let aim = WHOLE - rng.below(2) as u128;
-    let mut left = aim.saturating_sub(r.over as u128 + r.under as u128);
-    for word in scene.part(i)[..live].iter_mut() {
-        *word = left.min(*word as u128) as u64;
-        left -= *word as u128;
-    }
-    if live > 0 {
-        scene.part(i)[0] += left as u64;
-    }
-}
-
-fn spoil_left_over(rng: &mut Rng, scene: &mut Scene, i: usize) {
-    let from = match scene.state.records[i].mark {
-        OPEN => scene.live_of(i),
-        _ => 0,
-    };
-    let all = rng.chance(1, 2);
-    for word in scene.part(i)[from..].iter_mut() {
-        if all || rng.chance(1, 50) {
-            *word = rng.next();
-        }
-    }
-    for past in scene.state.records[scene.plan.count.min(10) as usize..].iter_mut() {
-        *past = garbage(rng);
-    }
-}
-
-fn spoil_length(rng: &mut Rng, scene: &mut Scene) {
-    let right = scene.words.len();
-    let len = rng.pick(&[right.saturating_sub(1), right + 1, 0, right + PART, right.saturating_sub(PART), PART * 10]);
-    let more = rng.next();
-    scene.words.resize(len, more);
-}
-
-fn spoil_plan(rng: &mut Rng, plan: &mut Plan, n: u32) {
-    let i = rng.below(10) as usize;
-    let j = rng.below(16) as usize;
-    let most = LARGEST_ALLOWANCE as u64;
-    match rng.below(9) {
-        0 => plan.count = rng.pick(&[0, 1, 10, 11, u32::MAX]),
-        1 => plan.buckets = rng.pick(&[1, 2, 16, 17, 0, u32::MAX]),
-        2 => plan.thresholds[i] = rng.pick(&[0, 1, 999_999, 1_000_000, u32::MAX, plan.thresholds[9 - i]]),
-        3 => plan.allowances[i] = rng.pick(&[0, 1, most, most + 1, u64::MAX]),
-        4 => plan.delay = rng.pick(&[0, 1, 65_535, 65_536, u32::MAX]),
-        5 => plan.horizon = rng.pick(&[0, 1, 50_000, 50_001, u32::MAX]),
-        6 => plan.horizon = rng.pick(&[n, n.wrapping_add(1), n.wrapping_sub(1)]),
-        7 => plan.left[j] = rng.pick(&[0, 1, 1_000_000, u32::MAX, plan.right[j], plan.thresholds[i]]),
-        _ => plan.right[j] = rng.pick(&[0, 1_000_000, 1_000_001, u32::MAX, plan.left[j], plan.thresholds[i]]),
-    }
-}
-
-fn spoil(rng: &mut Rng, scene: &mut Scene) {
-    let i = rng.below(scene.k() as u64) as usize;
-    match rng.below(24) {
-        0..=2 => spoil_counts(rng, scene, i),
-        3..=4 => spoil_mark(rng, scene, i),
-        5..=9 => spoil_boundary(rng, scene, i),
-        10..=12 => spoil_spent(rng, scene, i),
-        13..=14 => spoil_word(rng, scene, i),
-        15..=16 => spoil_mass(rng, scene, i),
-        17..=18 => spoil_left_over(rng, scene, i),
-        19 => spoil_length(rng, scene),
-        20 => scene.draw = rng.pick(&[2, 255]),
-        _ => {
-            let n = scene.state.n;
-            spoil_plan(rng, &mut scene.plan, n);
-        }
-    }
-}
-
-// ---- the run
 
 /// A test carried by given draws to its end, each compared; its states from a step on.
 fn carried_to_end(tally: &mut Tally, draft: &Draft, draws: impl Fn(u32) -> bool, from: u32) -> Vec<Scene> {
@@ -529,17 +288,17 @@ fn run_scene(tally: &mut Tally, rng: &mut Rng, good: &Scene) {
 }
 
 /// The outcomes that must come up, by entry.
-const EXPECTED: [(&str, &[&str]); 7] = [
-    ("carried draw", &["open", "decided", "crossed", "wide", "spent"]),
-    ("spoiled draw", &["open", "decided", "crossed", "wide", "spent", "1", "2", "3", "4", "5", "6", "8", "9", "10", "11"]),
-    ("begin", &["open", "1", "2", "3", "4", "5", "6", "8"]),
-    ("report_on", &["open", "decided", "crossed", "wide", "spent", "1", "2", "3", "4", "5", "6"]),
-    ("plan_refusal", &["done", "1", "2", "3", "4", "5", "6"]),
-    ("write_plan", &["done", "1", "2", "3", "4", "5", "6", "12"]),
-    ("read_plan", &["done", "1", "2", "3", "4", "5", "6", "7"]),
+const EXPECTED: [(&str, &str); 7] = [
+    ("carried draw", "open decided crossed wide spent"),
+    ("spoiled draw", "open decided crossed wide spent 1 2 3 4 5 6 8 9 10 11"),
+    ("begin", "open 1 2 3 4 5 6 8"),
+    ("report_on", "open decided crossed wide spent 1 2 3 4 5 6"),
+    ("plan_refusal", "done 1 2 3 4 5 6"),
+    ("write_plan", "done 1 2 3 4 5 6 12"),
+    ("read_plan", "done 1 2 3 4 5 6 7"),
 ];
 const LEFT_OVER: [&str; 3] = ["behind the live words", "settled words", "records past K"];
-const OVER_LEFT: &str = "taken over garbage";
+const OVER_GARBAGE: &str = "taken over garbage";
 
 impl Tally {
     fn of(&self, group: &'static str, what: &str) -> u64 {
@@ -552,10 +311,10 @@ impl Tally {
         let list: Vec<String> = self.draws_by_k.iter().map(|(k, count)| format!("{k}:{count}")).collect();
         println!("draws by thresholds: {}", list.join(" "));
         for (group, kinds) in EXPECTED {
-            let list: Vec<String> = kinds.iter().map(|kind| format!("{kind} {}", self.of(group, kind))).collect();
+            let list: Vec<String> = kinds.split(' ').map(|kind| format!("{kind} {}", self.of(group, kind))).collect();
             println!("{group}: {}", list.join(", "));
         }
-        let list: Vec<String> = LEFT_OVER.iter().map(|what| format!("{what} {}", self.of(OVER_LEFT, what))).collect();
+        let list: Vec<String> = LEFT_OVER.iter().map(|what| format!("{what} {}", self.of(OVER_GARBAGE, what))).collect();
         println!("draws taken over garbage: {}", list.join(", "));
         println!("{:<20}{:>12}{:>12}{:>12}{:>12}", "refusal 11", "in, taken", "in, by 10", "just out", "alone");
         for (name, [taken, ended, out, alone]) in CLAUSES.iter().zip(self.clauses) {
@@ -569,9 +328,10 @@ impl Tally {
     fn missing(&self) -> Vec<String> {
         let mut out = Vec::new();
         for (group, kinds) in EXPECTED {
-            out.extend(kinds.iter().filter(|kind| self.of(group, kind) == 0).map(|kind| format!("no {group}: {kind}")));
+            let never = kinds.split(' ').filter(|kind| self.of(group, kind) == 0);
+            out.extend(never.map(|kind| format!("no {group}: {kind}")));
         }
-        out.extend(LEFT_OVER.iter().filter(|what| self.of(OVER_LEFT, what) == 0).map(|what| format!("never {what}")));
+        out.extend(LEFT_OVER.iter().filter(|what| self.of(OVER_GARBAGE, what) == 0).map(|what| format!("never {what}")));
         for (clause, [taken, ended, past, alone]) in self.clauses.into_iter().enumerate() {
             let inside = if NEVER_TAKEN.contains(&clause) { ended } else { taken };
             if inside == 0 || past == 0 || (alone == 0 && !NEVER_ALONE.contains(&clause)) {
@@ -579,7 +339,7 @@ impl Tally {
             }
         }
         let noticed = |fault: &String| self.noticed.get(fault).is_some_and(|count| *count > 0);
-        let mistakes = mistakes().into_iter().map(|fault| format!("{fault:?}"));
+        let mistakes = mistakes().into_iter().map(name);
         out.extend(mistakes.filter(|fault| !noticed(fault)).map(|fault| format!("not noticed: {fault}")));
         if self.draws < 50_000 {
             out.push("too few draws".into());
