@@ -231,6 +231,19 @@ pub fn draw(p: &Plan, s: &State, words: &mut [u64], d: u8, fault: Fault) -> Stat
     State { answer: settled.answer, number: settled.number, ..next }
 }
 
+/// A run of draws, up to the first that is not answered `open`; else the answer to the state as it then stands.
+pub fn draw_all(p: &Plan, s: &State, words: &mut [u64], draws: &[u8]) -> State {
+    let mut state = *s;
+    for d in draws {
+        state = draw(p, &state, words, *d, Fault::None);
+        if state.answer != OPEN {
+            return state;
+        }
+    }
+    let last = report_on(p, &state);
+    State { answer: last.answer, number: last.number, ..state }
+}
+
 /// What a beginning hands back; the words are changed in place.
 pub fn begin(p: &Plan, words: &mut [u64]) -> State {
     let bad = plan_refusal(p);

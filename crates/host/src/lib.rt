@@ -6,6 +6,7 @@ mod states;
 
 use bucket_test::drawing::begin;
 use bucket_test::drawing::draw;
+use bucket_test::drawing::draw_all;
 use bucket_test::drawing::report_on;
 use bucket_test::plan_check::plan_refusal;
 use plans::plan_in;
@@ -85,6 +86,19 @@ pub extern "C" fn host_begin(p: HostPlan, words: &mut [u64]) -> HostState {
 #[no_mangle]
 pub extern "C" fn host_draw(p: HostPlan, s: HostState, words: &mut [u64], d: u8) -> HostState {
     let drawn = draw(plan_in(p), state_in(s), words, d);
+    let answer = drawn.answer;
+    let state = drawn.state;
+    state_out(answer, state)
+}
+
+#[no_mangle]
+pub extern "C" fn host_draw_all(
+    p: HostPlan,
+    s: HostState,
+    words: &mut [u64],
+    draws: &[u8],
+) -> HostState {
+    let drawn = draw_all(plan_in(p), state_in(s), words, draws);
     let answer = drawn.answer;
     let state = drawn.state;
     state_out(answer, state)
