@@ -1,8 +1,8 @@
 //! The boundaries of one threshold.
 //!
 //! `Literal` is the definition: a map from count to mass, and the boundaries searched over
-//! their whole printed ranges. `Quick` gives the same by running sums; it is held to
-//! `Literal` by the self-check and at the start of every compared run.
+//! their whole printed ranges. `Quick` gives the same by sums up to each count and a search
+//! by halves; it is held to `Literal` by the self-check and at the start of every compared run.
 
 use crate::plan::{MILLION, WHOLE};
 use std::collections::BTreeMap;
@@ -114,6 +114,20 @@ fn slipped(slip: Slip, stay: u128, rise: u128) -> u128 {
     }
 }
 
+/// The least j of a range from which on a test holds, or the one after the range.
+fn least(from: i64, to: i64, holds: impl Fn(i64) -> bool) -> i64 {
+    let (mut low, mut high) = (from, to + 1);
+    while low < high {
+        let middle = low + (high - low) / 2;
+        if holds(middle) {
+            high = middle;
+        } else {
+            low = middle + 1;
+        }
+    }
+    low
+}
+
 #[derive(Clone)]
 pub struct Quick {
     at: u128,
@@ -123,7 +137,8 @@ pub struct Quick {
     pub step: i64,
     pub upper: i64,
     pub lower: i64,
-    /// By count; zero where not live.
+    /// The masses from the count `first` on; there are none elsewhere.
+    first: i64,
     mass: Vec<u128>,
     pub spent_above: u128,
     pub spent_below: u128,
@@ -139,6 +154,7 @@ impl Quick {
             step: 0,
             upper: 1,
             lower: -1,
+            first: 0,
             mass: vec![WHOLE],
             spent_above: 0,
             spent_below: 0,
@@ -146,58 +162,41 @@ impl Quick {
     }
 
     pub fn mass(&self, count: i64) -> u128 {
-        if count < 0 || count as usize >= self.mass.len() {
-            0
-        } else {
-            self.mass[count as usize]
+        match usize::try_from(count - self.first) {
+            Ok(place) => self.mass.get(place).copied().unwrap_or(0),
+            Err(_) => 0,
         }
+    }
+
+    fn new_mass(&self, count: i64) -> u128 {
+        let stay = self.mass(count) * (MILLION - self.at);
+        let rise = self.mass(count - 1) * self.at;
+        slipped(self.slip, stay, rise)
     }
 
     pub fn advance(&mut self) {
         self.step += 1;
         let t = self.step;
-        self.mass.push(0);
-        let (first, last) = match self.slip {
-            Slip::MassGoesOn => (0, t),
-            _ => (self.lower + 1, self.upper),
-        };
-        let (rise, stay) = (self.at, MILLION - self.at);
-        let mut beneath = self.mass(first - 1);
-        let cells = &mut self.mass[first as usize..=last as usize];
-        for cell in cells {
-            let here = *cell;
-            *cell = match self.slip {
-                Slip::None => rounded_up(here * stay + beneath * rise),
-                slip => slipped(slip, here * stay, beneath * rise),
-            };
-            beneath = here;
-        }
         let limit = spending(self.allowance, self.delay, t as u128);
-
-        // No mass lies over `last` or under `first`, so the search begins there.
-        let (mut upper, mut above) = (last + 1, self.spent_above);
-        while upper > 1 && above + self.mass[upper as usize - 1] <= limit {
-            upper -= 1;
-            above += self.mass[upper as usize];
+        let first = self.first;
+        let new: Vec<u128> = (first..=first + self.mass.len() as i64).map(|s| self.new_mass(s)).collect();
+        let mut sums = vec![0];
+        for mass in &new {
+            sums.push(sums[sums.len() - 1] + mass);
         }
-        let (mut lower, mut below) = (first - 1, self.spent_below);
-        while lower < t && below + self.mass[lower as usize + 1] <= limit {
-            lower += 1;
-            below += self.mass[lower as usize];
-        }
-        self.upper = upper;
-        self.lower = lower;
+        let under = |j: i64| sums[(j - first).clamp(0, new.len() as i64) as usize];
+        let from = |j: i64| sums[new.len()] - under(j);
+        // As j rises, the masses from j on fall and those up to j rise.
+        self.upper = least(1, t + 1, |j| from(j) + self.spent_above <= limit);
+        self.lower = least(-1, t, |j| under(j + 1) + self.spent_below > limit) - 1;
         if self.slip == Slip::MassGoesOn {
+            self.mass = new;
             return;
         }
-        self.spent_above = above;
-        self.spent_below = below;
-        for s in first..=lower {
-            self.mass[s as usize] = 0;
-        }
-        for s in upper..=last {
-            self.mass[s as usize] = 0;
-        }
+        self.spent_above += from(self.upper);
+        self.spent_below += under(self.lower + 1);
+        self.first = self.lower + 1;
+        self.mass = new[(self.first - first) as usize..(self.upper - first) as usize].to_vec();
     }
 
     /// The same boundaries, masses and spent masses?

@@ -188,7 +188,7 @@ fn buckets(rng: &mut Rng, ends: &[u32], count: usize, overlap: bool) -> Vec<(u32
     out
 }
 
-fn any_plan(rng: &mut Rng, least_allowance: u64, horizon: u32) -> Draft {
+pub fn any_plan(rng: &mut Rng, least_allowance: u64, horizon: u32) -> Draft {
     let k = rng.range(1, 10) as usize;
     let b = rng.range(2, 16) as usize;
     let mut draft = Draft {

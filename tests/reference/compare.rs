@@ -223,6 +223,7 @@ impl Runner<'_> {
         match status.signal() {
             Some(_) if since.elapsed() >= PATIENCE => Err(format!("no end within {} s", PATIENCE.as_secs())),
             Some(signal) => Err(format!("ended by signal {signal} after {:?}", String::from_utf8_lossy(&out))),
+            None if !status.success() => Err(format!("{status} after {:?}", String::from_utf8_lossy(&out))),
             None => Ok(out),
         }
     }

@@ -31,6 +31,15 @@ pub fn crossing_plan() -> Draft {
     }
 }
 
+/// As many thresholds and buckets as a plan may have: 264 bytes.
+pub fn largest_plan() -> Draft {
+    Draft {
+        thresholds: (1..=10).map(|i| (i, 1)).collect(),
+        buckets: (0..16).map(|i| if i % 2 == 0 { (0, 5) } else { (5, 1_000_000) }).collect(),
+        ..plan_f()
+    }
+}
+
 pub fn all() -> Vec<Example> {
     let f = stored(&plan_f());
     let short = stored(&Draft { horizon: 172, ..plan_f() });
@@ -47,6 +56,8 @@ pub fn all() -> Vec<Example> {
         horizon: 50_000,
         buckets: vec![(0, 500_000), (500_000, 1_000_000)],
     };
+    let longest = largest_plan().store();
+    let too_long = [longest.clone(), vec![0]].concat();
     let zeros = |count: usize| vec![b'0'; count];
     let both = |zeros: usize, ones: usize| [vec![b'0'; zeros], vec![b'1'; ones]].concat();
     let w = Feed::Whole;
@@ -73,6 +84,8 @@ pub fn all() -> Vec<Example> {
         example("missing plan, input held open", PlanFile::Missing, b"", Feed::Held, "refused 7\n"),
         example("missing plan, draw 2", PlanFile::Missing, b"2", w, "refused 7\n"),
         example("unreadable plan", PlanFile::Folder, b"11111", w, "refused 7\n"),
+        example("a plan of 264 bytes", PlanFile::Stored(longest), b"", w, "open 0 0 0 0 1000000\n"),
+        example("the same with a byte more", PlanFile::Stored(too_long), b"", w, "refused 7\n"),
         example("allowance of one half (P9)", too_much, b"11111", w, "refused 3\n"),
         example("a gap between buckets (P10)", gap, b"11111", w, "refused 6\n"),
         example("10,000 above, 50,000 open (P7)", crossing.clone(), b"11", w, "open 0 2 2 10000 1000000\n"),

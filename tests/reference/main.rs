@@ -6,10 +6,14 @@ mod cases;
 mod compare;
 mod examples;
 mod gandy;
+mod host;
+mod judge;
 mod plan;
 mod rng;
+mod scenes;
 mod selfcheck;
 mod sequential;
+mod spoiled;
 
 use std::io::{Read, Write};
 use std::process::exit;
@@ -20,6 +24,7 @@ const USAGE: &str = "usage: reference COMMAND
                                        the program against the reference
   gandy [--steps N] [--runs N] [--seed N]
                                        the published rule, by exact fractions
+  spoiled [--seed N]                   the library's entries on spoiled states, against the reference
   program                              behave as the program: file `plan`, draws on standard input";
 
 /// The value after each `--name` word.
@@ -68,6 +73,7 @@ fn main() {
             })
         }
         "gandy" => gandy::run(words.number("--steps", 1000), words.number("--runs", 20_000), seed),
+        "spoiled" => spoiled::run(seed),
         "program" => {
             let stored = std::fs::read("plan").ok();
             let input = std::io::BufReader::new(std::io::stdin()).bytes().map_while(|byte| byte.ok());

@@ -4,7 +4,7 @@ use crate::big::Big;
 use crate::boundary::{spending, Literal, Quick, Slip};
 use crate::cases::{self, plan_f, Draft};
 use crate::compare::kind_of_line;
-use crate::examples;
+use crate::examples::{self, largest_plan};
 use crate::plan::{read, LARGEST_ALLOWANCE, MILLION, WHOLE};
 use crate::rng::Rng;
 use crate::sequential::{program, program_with, Answer, Mark, Test};
@@ -78,11 +78,7 @@ fn numbered(report: &mut Report) {
     }
     report.check("draw 2 to an ended test: 9", ended.take(2) == Err(9));
     report.check("draw 1 to an ended test: 10", ended.take(1) == Err(10));
-    let largest = Draft {
-        thresholds: (1..=10).map(|i| (i, 1)).collect(),
-        buckets: (0..16).map(|i| if i % 2 == 0 { (0, 5) } else { (5, 1_000_000) }).collect(),
-        ..plan_f()
-    };
+    let largest = largest_plan();
     report.check("the largest plan is 264 bytes", largest.store().len() == 264 && read(&largest.store()).is_ok());
     report.check("the star plan keeps the rules", read(&cases::star_plan().store()).is_ok());
 }
@@ -98,6 +94,29 @@ fn printed(report: &mut Report) {
 }
 
 /// Literal against quick boundaries, and the facts said to hold at every step.
+fn facts_of(report: &mut Report, at: u128, allowance: u128, delay: u128, steps: u128) -> Quick {
+    let mut literal = Literal::begin(at, allowance, delay);
+    let mut quick = Quick::begin(at, allowance, delay, Slip::None);
+    let mut good = true;
+    for t in 1..=steps {
+        let (upper, lower) = (quick.upper, quick.lower);
+        literal.advance();
+        quick.advance();
+        let live: u128 = literal.mass.values().sum();
+        let all = live + literal.spent_above + literal.spent_below;
+        good &= quick.agrees(&literal)
+            && quick.upper - quick.lower >= 2
+            && quick.upper <= upper + 1
+            && quick.lower >= lower
+            && all >= WHOLE
+            && all <= WHOLE + 769 * t
+            && literal.spent_above <= spending(allowance, delay, t)
+            && literal.spent_below <= spending(allowance, delay, t);
+    }
+    report.check(&format!("facts for threshold {at}, allowance {allowance}, delay {delay}"), good);
+    quick
+}
+
 fn facts(report: &mut Report, seed: u64) {
     for round in 0..24u64 {
         let rng = &mut Rng::new(seed, 77_000 + round);
@@ -105,27 +124,11 @@ fn facts(report: &mut Report, seed: u64) {
         let at = rng.pick(&[1, 500, 50_000, 400_000, 500_000, 999_999, any]) as u128;
         let allowance = rng.scale(1, LARGEST_ALLOWANCE as u64) as u128;
         let delay = rng.scale(1, 65_535) as u128;
-        let mut literal = Literal::begin(at, allowance, delay);
-        let mut quick = Quick::begin(at, allowance, delay, Slip::None);
-        let steps = if round < 4 { 400 } else { 150 };
-        let mut good = true;
-        for t in 1..=steps {
-            let (upper, lower) = (quick.upper, quick.lower);
-            literal.advance();
-            quick.advance();
-            let live: u128 = literal.mass.values().sum();
-            let all = live + literal.spent_above + literal.spent_below;
-            good &= quick.agrees(&literal)
-                && quick.upper - quick.lower >= 2
-                && quick.upper <= upper + 1
-                && quick.lower >= lower
-                && all >= WHOLE
-                && all <= WHOLE + 769 * t
-                && literal.spent_above <= spending(allowance, delay, t)
-                && literal.spent_below <= spending(allowance, delay, t);
-        }
-        report.check(&format!("facts for threshold {at}, allowance {allowance}, delay {delay}"), good);
+        facts_of(report, at, allowance, delay, if round < 4 { 400 } else { 150 });
     }
+    facts_of(report, 50_000, 4_398_046_511, 1000, 2000);
+    let spread = facts_of(report, 500_000, 1, 1, 800);
+    report.check("passes wide", spread.upper - spread.lower - 1 > 769);
 }
 
 /// Exact weights of the strings that meet each boundary, against the spent masses.

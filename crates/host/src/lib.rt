@@ -1,0 +1,139 @@
+// The entries of the library as C functions, for the comparison of `tests/`: any plan, state, words and bytes go in, and what an entry
+// hands back comes out.
+
+mod plans;
+mod states;
+
+use bucket_test::Drawn;
+use bucket_test::drawing::begin;
+use bucket_test::drawing::draw;
+use bucket_test::drawing::draw_all;
+use bucket_test::drawing::report_on;
+use bucket_test::plan_check::plan_refusal;
+use plans::plan_in;
+use plans::plan_out;
+use states::answer_in;
+use states::answer_kind;
+use states::answer_number;
+use states::state_in;
+use states::state_out;
+use stored_plan::reading::read_plan;
+use stored_plan::writing::write_plan;
+
+// A plan, with the number of its refusal where one was asked for.
+#[repr(C)]
+pub struct HostPlan {
+    pub refusal: u32,
+    pub count: u32,
+    pub buckets: u32,
+    pub delay: u32,
+    pub horizon: u32,
+    pub thresholds: [u32; 10],
+    pub allowances: [u64; 10],
+    pub left: [u32; 16],
+    pub right: [u32; 16],
+}
+
+// A record. Its mark is 0 open, 1 above, 2 at most, at a step.
+#[repr(C)]
+pub struct HostRecord {
+    pub mark: u32,
+    pub step: u32,
+    pub lower: i32,
+    pub upper: u32,
+    pub over: u64,
+    pub under: u64,
+}
+
+// A state, with the answer of the call that handed it back: 0 open, 1 decided, 2 crossed, 3 wide, 4 spent, 5 refused, and the number of the
+// bucket or of the refusal.
+#[repr(C)]
+pub struct HostState {
+    pub answer: u32,
+    pub number: u32,
+    pub n: u32,
+    pub ones: u32,
+    pub records: [HostRecord; 10],
+}
+
+// An answer with its interval.
+#[repr(C)]
+pub struct HostReport {
+    pub answer: u32,
+    pub number: u32,
+    pub low: u32,
+    pub high: u32,
+}
+
+// A refusal and a number of bytes.
+#[repr(C)]
+pub struct HostWritten {
+    pub refusal: u32,
+    pub size: usize,
+}
+
+#[no_mangle]
+pub extern "C" fn host_plan_refusal(p: HostPlan) -> u32 {
+    plan_refusal(plan_in(p))
+}
+
+#[no_mangle]
+pub extern "C" fn host_begin(p: HostPlan, words: &mut [u64]) -> HostState {
+    let drawn = begin(plan_in(p), words);
+    let answer = drawn.answer;
+    let state = drawn.state;
+    state_out(answer, state)
+}
+
+#[no_mangle]
+pub extern "C" fn host_draw(p: HostPlan, s: HostState, words: &mut [u64], d: u8) -> HostState {
+    let drawn = draw(plan_in(p), state_in(s), words, d);
+    let answer = drawn.answer;
+    let state = drawn.state;
+    state_out(answer, state)
+}
+
+#[no_mangle]
+pub extern "C" fn host_draw_all(
+    p: HostPlan,
+    s: HostState,
+    words: &mut [u64],
+    draws: &[u8],
+) -> HostState {
+    let before = Drawn {
+        answer: answer_in(s.answer, s.number),
+        state: state_in(s),
+    };
+    let drawn = draw_all(plan_in(p), before, words, draws);
+    let answer = drawn.answer;
+    let state = drawn.state;
+    state_out(answer, state)
+}
+
+#[no_mangle]
+pub extern "C" fn host_report_on(p: HostPlan, s: HostState) -> HostReport {
+    let report = report_on(plan_in(p), state_in(s));
+    let answer = report.answer;
+    HostReport {
+        answer: answer_kind(answer),
+        number: answer_number(answer),
+        low: report.low,
+        high: report.high,
+    }
+}
+
+#[no_mangle]
+pub extern "C" fn host_read_plan(bytes: &[u8]) -> HostPlan {
+    let read = read_plan(bytes);
+    let plan = read.plan;
+    plan_out(read.refusal, plan)
+}
+
+#[no_mangle]
+pub extern "C" fn host_write_plan(p: HostPlan, bytes: &mut [u8]) -> HostWritten {
+    let written = write_plan(plan_in(p), bytes);
+    HostWritten {
+        refusal: written.refusal,
+        size: written.size,
+    }
+}

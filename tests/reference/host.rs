@@ -1,0 +1,145 @@
+//! The library's entries, by way of the crate `host`.
+
+use crate::cases::Draft;
+
+/// Any plan; `refusal` is that of a reading.
+#[repr(C)]
+#[derive(Clone, Copy, Debug, Default, PartialEq)]
+pub struct Plan {
+    pub refusal: u32,
+    pub count: u32,
+    pub buckets: u32,
+    pub delay: u32,
+    pub horizon: u32,
+    pub thresholds: [u32; 10],
+    pub allowances: [u64; 10],
+    pub left: [u32; 16],
+    pub right: [u32; 16],
+}
+
+pub const OPEN: u32 = 0;
+pub const ABOVE: u32 = 1;
+pub const AT_MOST: u32 = 2;
+
+/// The step of an open mark is 0.
+#[repr(C)]
+#[derive(Clone, Copy, Debug, Default, PartialEq)]
+pub struct Record {
+    pub mark: u32,
+    pub step: u32,
+    pub lower: i32,
+    pub upper: u32,
+    pub over: u64,
+    pub under: u64,
+}
+
+pub const DECIDED: u32 = 1;
+pub const CROSSED: u32 = 2;
+pub const WIDE: u32 = 3;
+pub const SPENT: u32 = 4;
+pub const REFUSED: u32 = 5;
+
+/// Any state, behind the answer that came with it.
+#[repr(C)]
+#[derive(Clone, Copy, Debug, Default, PartialEq)]
+pub struct State {
+    pub answer: u32,
+    pub number: u32,
+    pub n: u32,
+    pub ones: u32,
+    pub records: [Record; 10],
+}
+
+#[repr(C)]
+#[derive(Clone, Copy, Debug, Default, PartialEq)]
+pub struct Report {
+    pub answer: u32,
+    pub number: u32,
+    pub low: u32,
+    pub high: u32,
+}
+
+#[repr(C)]
+#[derive(Clone, Copy, Debug, Default, PartialEq)]
+pub struct Written {
+    pub refusal: u32,
+    pub size: usize,
+}
+
+mod entries {
+    use super::*;
+
+    // A slice is lent as its address and its length.
+    #[link(name = "host", kind = "static")]
+    extern "C" {
+        pub fn host_plan_refusal(p: Plan) -> u32;
+        pub fn host_begin(p: Plan, words: *mut u64, len: usize) -> State;
+        pub fn host_draw(p: Plan, s: State, words: *mut u64, len: usize, d: u8) -> State;
+        pub fn host_draw_all(p: Plan, s: State, words: *mut u64, len: usize, draws: *const u8, count: usize) -> State;
+        pub fn host_report_on(p: Plan, s: State) -> Report;
+        pub fn host_read_plan(bytes: *const u8, len: usize) -> Plan;
+        pub fn host_write_plan(p: Plan, bytes: *mut u8, len: usize) -> Written;
+    }
+}
+
+pub fn plan_refusal(p: Plan) -> u32 {
+    unsafe { entries::host_plan_refusal(p) }
+}
+
+pub fn begin(p: Plan, words: &mut [u64]) -> State {
+    unsafe { entries::host_begin(p, words.as_mut_ptr(), words.len()) }
+}
+
+pub fn draw(p: Plan, s: State, words: &mut [u64], d: u8) -> State {
+    unsafe { entries::host_draw(p, s, words.as_mut_ptr(), words.len(), d) }
+}
+
+pub fn draw_all(p: Plan, s: State, words: &mut [u64], draws: &[u8]) -> State {
+    unsafe { entries::host_draw_all(p, s, words.as_mut_ptr(), words.len(), draws.as_ptr(), draws.len()) }
+}
+
+pub fn report_on(p: Plan, s: State) -> Report {
+    unsafe { entries::host_report_on(p, s) }
+}
+
+pub fn read_plan(bytes: &[u8]) -> Plan {
+    unsafe { entries::host_read_plan(bytes.as_ptr(), bytes.len()) }
+}
+
+pub fn write_plan(p: Plan, bytes: &mut [u8]) -> Written {
+    unsafe { entries::host_write_plan(p, bytes.as_mut_ptr(), bytes.len()) }
+}
+
+/// The draft's plan, with zeros past its counts.
+pub fn plan_of(draft: &Draft) -> Plan {
+    let mut p = Plan {
+        count: draft.thresholds.len() as u32,
+        buckets: draft.buckets.len() as u32,
+        delay: draft.delay,
+        horizon: draft.horizon,
+        ..Plan::default()
+    };
+    for (i, (at, allowance)) in draft.thresholds.iter().take(10).enumerate() {
+        p.thresholds[i] = *at;
+        p.allowances[i] = *allowance;
+    }
+    for (j, (left, right)) in draft.buckets.iter().take(16).enumerate() {
+        p.left[j] = *left;
+        p.right[j] = *right;
+    }
+    p
+}
+
+/// The draft that a plan holds, where its counts keep rule 1.
+pub fn draft_of(p: &Plan) -> Option<Draft> {
+    if !(1..=10).contains(&p.count) || !(2..=16).contains(&p.buckets) {
+        return None;
+    }
+    let (k, b) = (p.count as usize, p.buckets as usize);
+    Some(Draft {
+        thresholds: (0..k).map(|i| (p.thresholds[i], p.allowances[i])).collect(),
+        delay: p.delay,
+        horizon: p.horizon,
+        buckets: (0..b).map(|j| (p.left[j], p.right[j])).collect(),
+    })
+}

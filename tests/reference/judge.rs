@@ -1,0 +1,261 @@
+//! What the rules settle of one call, for any plan, state, words and draw; with a walk of its own.
+
+use crate::host::{draft_of, Plan, Record, Report, State};
+use crate::host::{ABOVE, AT_MOST, CROSSED, DECIDED, OPEN, REFUSED, SPENT, WIDE};
+use crate::plan::{read, Bucket, MILLION, WHOLE};
+
+pub const PART: usize = 769;
+pub const WORD_LIMIT: u128 = 1 << 43;
+
+/// The clauses of refusal 11.
+pub const CLAUSES: [&str; 14] = [
+    "n over N",
+    "S over n",
+    "settled before 1",
+    "settled after n",
+    "lower under -1",
+    "upper over n + 1",
+    "apart under 2",
+    "apart over 770",
+    "S at lower",
+    "S at upper",
+    "upper spent",
+    "lower spent",
+    "live word",
+    "mass under M",
+];
+
+/// Never broken alone: each open threshold breaks another with it, and where none is open the answer ends the test.
+pub const NEVER_ALONE: [usize; 2] = [1, 6];
+/// At their limit the answer is `spent` or `wide`: refusal 10.
+pub const NEVER_TAKEN: [usize; 2] = [0, 7];
+
+/// Mistakes that the comparison must notice.
+#[derive(Clone, Copy, Debug, PartialEq)]
+pub enum Fault {
+    None,
+    /// A clause's limit moved: -1 lets one more pass, 1 one less.
+    Limit(usize, i128),
+    NineBeforeEight,
+    TenBeforeNine,
+    ElevenBeforeTen,
+    BehindKept,
+    PastCleared,
+    SettledCleared,
+    MarkOfStepBefore,
+    RefusalCounts,
+}
+
+pub fn plan_refusal(p: &Plan) -> u32 {
+    match draft_of(p) {
+        None => 1,
+        Some(draft) => read(&draft.store()).err().unwrap_or(0) as u32,
+    }
+}
+
+pub fn spending(p: &Plan, i: usize, n: u32) -> u128 {
+    p.allowances[i] as u128 * n as u128 / (n as u128 + p.delay as u128)
+}
+
+fn apart(r: &Record) -> i128 {
+    r.upper as i128 - r.lower as i128
+}
+
+/// The answer rule with its interval, put to any state under an accepted plan.
+fn answer(p: &Plan, s: &State) -> Report {
+    let k = p.count as usize;
+    let marked = |mark: u32| (0..k).filter(move |i| s.records[*i].mark == mark).map(|i| p.thresholds[i]);
+    let low = marked(ABOVE).max().unwrap_or(0);
+    let high = marked(AT_MOST).min().unwrap_or(MILLION as u32);
+    let buckets = (0..p.buckets as usize).map(|j| Bucket { left: p.left[j] as u128, right: p.right[j] as u128 });
+    let first = buckets.into_iter().position(|b| b.contains(low as u128, high as u128));
+    let wide = (0..k).any(|i| s.records[i].mark == OPEN && apart(&s.records[i]) - 1 == PART as i128);
+    let (answer, number) = match first {
+        _ if low > high => (CROSSED, 0),
+        Some(place) => (DECIDED, place as u32 + 1),
+        None if wide => (WIDE, 0),
+        None if s.n == p.horizon => (SPENT, 0),
+        None => (OPEN, 0),
+    };
+    Report { answer, number, low, high }
+}
+
+/// The answer to a state as it stands; a refused plan has no interval.
+pub fn report_on(p: &Plan, s: &State) -> Report {
+    match plan_refusal(p) {
+        0 => answer(p, s),
+        number => Report { answer: REFUSED, number, low: 0, high: 0 },
+    }
+}
+
+/// The live words of a record, as many as its part has.
+pub fn live<'a>(r: &Record, part: &'a [u64]) -> &'a [u64] {
+    &part[..(apart(r) - 1).clamp(0, part.len() as i128) as usize]
+}
+
+/// How far inside each clause's limit the state is, the least over its records: 0 at the limit, below 0 broken.
+pub fn slacks(p: &Plan, s: &State, words: &[u64]) -> [Option<i128>; 14] {
+    let mut out = [None; 14];
+    let mut note = |clause: usize, slack: i128| {
+        out[clause] = Some(out[clause].map_or(slack, |least: i128| least.min(slack)));
+    };
+    let (n, ones) = (s.n as i128, s.ones as i128);
+    note(0, p.horizon as i128 - n);
+    note(1, n - ones);
+    for i in 0..p.count as usize {
+        let r = &s.records[i];
+        if r.mark != OPEN {
+            note(2, r.step as i128 - 1);
+            note(3, n - r.step as i128);
+            continue;
+        }
+        let limit = spending(p, i, s.n) as i128;
+        let live = live(r, &words[PART * i..PART * (i + 1)]);
+        let mass: u128 = live.iter().map(|w| *w as u128).sum::<u128>() + r.over as u128 + r.under as u128;
+        note(4, r.lower as i128 + 1);
+        note(5, n + 1 - r.upper as i128);
+        note(6, apart(r) - 2);
+        note(7, 770 - apart(r));
+        note(8, ones - r.lower as i128 - 1);
+        note(9, r.upper as i128 - ones - 1);
+        note(10, limit - r.over as i128);
+        note(11, limit - r.under as i128);
+        note(12, WORD_LIMIT as i128 - live.iter().copied().max().unwrap_or(0) as i128);
+        note(13, mass as i128 - WHOLE as i128);
+    }
+    out
+}
+
+fn spoiled(p: &Plan, s: &State, words: &[u64], fault: Fault) -> bool {
+    let limit = |clause: usize| match fault {
+        Fault::Limit(moved, by) if moved == clause => by,
+        _ => 0,
+    };
+    let mut slacks = slacks(p, s, words).into_iter().enumerate();
+    slacks.any(|(clause, slack)| slack.is_some_and(|slack| slack < limit(clause)))
+}
+
+/// One step of a walk to step t: masses by count, boundaries searched over their printed ranges.
+fn walk(a: u128, limit: u128, t: i64, r: &mut Record, part: &mut [u64], fault: Fault) {
+    let (lower, upper) = (r.lower as i64, r.upper as i64);
+    let counts: Vec<i64> = (lower + 1..=upper).collect();
+    let old = |s: i64| match lower < s && s < upper {
+        true => part.get((s - lower - 1) as usize).copied().unwrap_or(0) as u128,
+        false => 0,
+    };
+    let mass = |s: &i64| (old(*s) * (MILLION - a) + old(*s - 1) * a).div_ceil(MILLION);
+    let new: Vec<u128> = counts.iter().map(mass).collect();
+    let mut sums = vec![0u128];
+    for mass in &new {
+        sums.push(sums[sums.len() - 1] + mass);
+    }
+    let all = sums[new.len()];
+    let below = |j: i64| sums[(j - lower - 1).clamp(0, new.len() as i64) as usize];
+    let (over, under) = (r.over as u128, r.under as u128);
+    // Both exist for every state that is not refused.
+    let top = (1..=t + 1).find(|j| all - below(*j) + over <= limit).unwrap_or(i64::MAX);
+    let bottom = (-1..=t).rev().find(|j| below(*j + 1) + under <= limit).unwrap_or(-2);
+    let sum = |from: &dyn Fn(i64) -> bool| counts.iter().zip(&new).filter(|c| from(*c.0)).map(|c| c.1).sum::<u128>();
+    r.over = (over + sum(&|s| s >= top)) as u64;
+    r.under = (under + sum(&|s| s <= bottom)) as u64;
+    r.lower = bottom as i32;
+    r.upper = top as u32;
+    if fault != Fault::BehindKept {
+        part.fill(0);
+    }
+    let kept = counts.iter().zip(&new).filter(|c| bottom < *c.0 && *c.0 < top).map(|c| *c.1 as u64);
+    part.iter_mut().zip(kept).for_each(|(word, mass)| *word = mass);
+}
+
+fn refused(number: u32, s: &State) -> State {
+    State { answer: REFUSED, number, ..*s }
+}
+
+/// The refusal of a draw, or 0.
+fn draw_refusal(p: &Plan, s: &State, words: &[u64], d: u8, fault: Fault) -> u32 {
+    let bad = plan_refusal(p);
+    if bad > 0 {
+        return bad;
+    }
+    let eight = words.len() != PART * p.count as usize;
+    let nine = d > 1;
+    let ten = || answer(p, s).answer != OPEN;
+    let eleven = || spoiled(p, s, words, fault);
+    match fault {
+        Fault::NineBeforeEight if nine => 9,
+        _ if eight => 8,
+        Fault::TenBeforeNine if ten() => 10,
+        _ if nine => 9,
+        Fault::ElevenBeforeTen if eleven() => 11,
+        _ if ten() => 10,
+        _ if eleven() => 11,
+        _ => 0,
+    }
+}
+
+fn turn(p: &Plan, s: &mut State, words: &mut [u64], fault: Fault) {
+    for i in 0..p.count as usize {
+        let r = &mut s.records[i];
+        let part = &mut words[PART * i..PART * (i + 1)];
+        if r.mark != OPEN {
+            if fault == Fault::SettledCleared {
+                part.fill(0);
+            }
+            continue;
+        }
+        walk(p.thresholds[i] as u128, spending(p, i, s.n), s.n as i64, r, part, fault);
+        let step = s.n - (fault == Fault::MarkOfStepBefore) as u32;
+        if s.ones as i64 >= r.upper as i64 {
+            (r.mark, r.step) = (ABOVE, step);
+        } else if s.ones as i64 <= r.lower as i64 {
+            (r.mark, r.step) = (AT_MOST, step);
+        }
+    }
+}
+
+/// What a draw hands back; the words are changed in place.
+pub fn draw(p: &Plan, s: &State, words: &mut [u64], d: u8, fault: Fault) -> State {
+    let number = draw_refusal(p, s, words, d, fault);
+    if number > 0 {
+        let counted = s.n.wrapping_add((fault == Fault::RefusalCounts) as u32);
+        return refused(number, &State { n: counted, ..*s });
+    }
+    let mut next = *s;
+    next.n = next.n.wrapping_add(1);
+    next.ones = next.ones.wrapping_add(d as u32);
+    turn(p, &mut next, words, fault);
+    if fault == Fault::PastCleared {
+        next.records[p.count as usize..].fill(Record::default());
+    }
+    let settled = answer(p, &next);
+    State { answer: settled.answer, number: settled.number, ..next }
+}
+
+/// A run of draws after an outcome: each while the answer is `open`.
+pub fn draw_all(p: &Plan, s: &State, words: &mut [u64], draws: &[u8]) -> State {
+    let mut state = *s;
+    for d in draws {
+        if state.answer == OPEN {
+            state = draw(p, &state, words, *d, Fault::None);
+        }
+    }
+    state
+}
+
+/// What a beginning hands back; the words are changed in place.
+pub fn begin(p: &Plan, words: &mut [u64]) -> State {
+    let bad = plan_refusal(p);
+    if bad > 0 {
+        return refused(bad, &State::default());
+    }
+    if words.len() != PART * p.count as usize {
+        return refused(8, &State::default());
+    }
+    for (i, word) in words.iter_mut().enumerate() {
+        *word = if i % PART == 0 { WHOLE as u64 } else { 0 };
+    }
+    let first = Record { lower: -1, upper: 1, ..Record::default() };
+    let state = State { records: [first; 10], ..State::default() };
+    let settled = answer(p, &state);
+    State { answer: settled.answer, number: settled.number, ..state }
+}
