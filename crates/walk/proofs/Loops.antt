@@ -1,6 +1,6 @@
 -- What a turn of each loop of src/row.rt and src/soundness.rt leaves to do. Assumes nothing.
-use mathlib.Core.Path.{_≡_, refl}
-use mathlib.Core.Bool.{Bool, true, false, _&&_}
+use mathlib.Core.Path.{_≡_, sym}
+use mathlib.Core.Bool.{Bool, true, _&&_, and-assoc}
 use mathlib.Core.List.{List, _++_, append-nil}
 use Prim.Native.Nat.{ℕ, suc, _+_, _-_, _≤_, _<_}
 use native.Mathlib.Numerals.{add-one}
@@ -11,7 +11,7 @@ use lib.Seq.{take-suc-set, append-snoc, drop-set-lt, drop-cons, take-all, set-sp
 use Rattle.walk.specs.Numbers.{le?, sum, allUpTo}
 use Rattle.walk.specs.Mass.{massUp}
 use Rattle.walk.specs.Row.{cellsBy, newMasses, kept, dropped}
-use Rattle.walk.proofs.Tests.{Le?, le, gt, test, le?-complete, le?-fails}
+use Rattle.walk.proofs.Tests.{le?-complete}
 use Rattle.walk.proofs.Lists.{sum-take-suc, sum-take-drop, sum-drop-suc, sum-drop-falls, all-cons}
 use Rattle.walk.proofs.Cuts.{Keeps, keeps, Drops, drops}
 
@@ -126,17 +126,8 @@ module _ (e under taken : ℕ) (cs : List ℕ) (i : ℕ) (is : taken ≡ under +
           (not-less (λ (q : dropped e under cs < i). omega (arith, d .most (omega arith), rises (suc (dropped e under cs)) i q)))
           (not-less (λ (q : i < dropped e under cs). omega (arith, d .fits, d .within, stop (omega (arith, d .within)), sum-take-suc cs i, rises (suc i) (dropped e under cs) q)))
 
--- ---- all_fit at i: q more is over, which is 0 exactly when the word at i fits
+-- ---- all_fit at i: f says whether the words so far fit
 
-pub fits-more : (b over q : ℕ) (l : List ℕ) (i : ℕ) → i < length l → (getD l i 0 ≤ b → q ≡ 0) → (b < getD l i 0 → 0 < q)
-    → le? over 0 && allUpTo b (drop i l) ≡ le? (over + q) 0 && allUpTo b (drop (i + 1) l)
-fits-more b over q l i within none some = rw (add-one, drop-cons l i 0) (go (le? (getD l i 0) b) (test (getD l i 0) b) (le? over 0) (test over 0))
-  where
-    rest : Bool
-    rest = allUpTo b (drop (suc i) l)
-
-    go : (f : Bool) → Le? (getD l i 0) b f → (o : Bool) → Le? over 0 o → o && (f && rest) ≡ le? (over + q) 0 && rest
-    go true (le h) true (le g) = rw (le?-complete (over + q) 0 (omega (arith, none h))) refl
-    go true (le h) false (gt g) = rw (le?-fails (over + q) 0 (omega (arith, g))) refl
-    go false (gt h) true (le g) = rw (le?-fails (over + q) 0 (omega (arith, some h))) refl
-    go false (gt h) false (gt g) = rw (le?-fails (over + q) 0 (omega (arith, g))) refl
+pub fits-more : (b : ℕ) (l : List ℕ) (i : ℕ) (f g : Bool) → i < length l → g ≡ f && le? (getD l i 0) b
+    → f && allUpTo b (drop i l) ≡ g && allUpTo b (drop (i + 1) l)
+fits-more b l i f g within is = rw (add-one, drop-cons l i 0, is) (sym (and-assoc f (le? (getD l i 0) b) (allUpTo b (drop (suc i) l))))

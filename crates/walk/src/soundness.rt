@@ -1,6 +1,7 @@
 // Whether a state that was handed in may be walked on (01, refusal 11, of an open threshold).
 
 use crate::Walked;
+use std::num::wrapping_add_u64;
 ghost use mathlib.Core.Path.{_≡_};
 ghost use mathlib.Core.Bool.{true};
 ghost use Prim.Native.Nat.{_+_, _-_, _≤_};
@@ -40,20 +41,18 @@ fn boundaries_sound(w: Walked, n: u32, ones: u32, e: u64) -> bool
     w.under <= e
 }
 
-// Whether each word is at most 2^43. The pass runs at every draw, so it has no branch: x - x / 2^43 reaches 2^43 exactly when x is over it.
-// For this crate only: so many quotients cannot overflow.
+// Whether each word x is at most 2^43: just then x and x + 2^43 - 1 are both below 2^44. The pass runs at every draw, so it has no branch.
 fn all_fit(words: &[u64]) -> bool
-    requires { ⌜ length (now words) ≤ wide ⌝ }
     ensures { λ r. ⌜ r ≡ allUpTo massLimit (now (words .entry)) ⌝ }
 {
-    let mut over: u64 = 0;
+    let mut seen: u64 = 0;
     let mut i = 0;
     while i < words.len() {
         let x = words[i];
-        over += (x - x / 8796093022208) / 8796093022208;
+        seen |= x | wrapping_add_u64(x, 8796093022207);
         i += 1;
     }
-    over == 0
+    seen < 17592186044416
 }
 
 // The words' sum. For this crate only: so many words that fit cannot overflow.

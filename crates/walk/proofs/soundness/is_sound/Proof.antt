@@ -81,7 +81,7 @@ slice-aggregate-all-fit : tie.Need-slice-aggregate-all-fit
 slice-aggregate-all-fit c = sym (length-take-le _ _ (words-passed (c .before) .there))
 
 all-fit-requires : tie.Need-all-fit-requires
-all-fit-requires c κs = few-enough (c .before)
+all-fit-requires c κs = search needs
 
 returns-2 : tie.Need-returns-2
 returns-2 c =
