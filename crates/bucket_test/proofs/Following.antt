@@ -1,6 +1,6 @@
 -- One threshold of a carried test: its record and its part after the draws taken are what its walk and the string say, and one turn
 -- takes them one draw on. Cites laws of `walk` about boundaries and masses only. Assumes nothing.
-use mathlib.Core.Path.{_≡_, refl, sym, ap, _∙_}
+use mathlib.Core.Path.{_≡_, refl, ap}
 use mathlib.Core.Bool.{Bool, true, false}
 use mathlib.Core.List.{List, _∷_}
 use Prim.Native.Nat.{ℕ, suc, _≤_}

@@ -2,7 +2,7 @@
 use mathlib.Core.Path.{_≡_, refl}
 use mathlib.Core.Bool.{true}
 use mathlib.Core.List.{List, [], _∷_}
-use mathlib.Core.Logic.{_↔_}
+use mathlib.Core.Logic.{_↔_, inl, inr}
 use Prim.Native.Nat.{ℕ, zero, suc, _≤_, _<_}
 use native.Mathlib.Omega.{arith}
 use Rattle.walk.specs.Units.{million, allowanceLimit, horizonLimit}
@@ -11,7 +11,7 @@ use Rattle.walk.proofs.SpendingLaws.{spending-is}
 use Rattle.bucket_test.specs.Tests.{unless, firstRefusal}
 use Rattle.bucket_test.specs.Plan.{thresholdAt, allowanceAt, leftAt, rightAt, spendingOf, rule1, aboveBefore, rule2, rule3, rule4, permitted, bucketFits, rule5, rule6, planRefusal, Permitted, Covered, Accepted}
 use Rattle.bucket_test.specs.declared.Plan.{Plan}
-use Rattle.bucket_test.proofs.PlaceLaws.{both, either, neither, le-reads, eq-reads, within-reads, all-say, any-say, none-says, first-le}
+use Rattle.bucket_test.proofs.PlaceLaws.{both, either, neither, le-reads, eq-reads, within-reads, all-say, any-say, none-says}
 use Rattle.bucket_test.proofs.Cover.{covers}
 
 module _ (p : Plan) where
@@ -133,15 +133,12 @@ module _ (p : Plan) where
   pub accepted : (planRefusal p ≡ 0) ↔ Accepted p
   accepted = (λ e. gives (kept .0 e), λ a. kept .1 (keeps a))
 
-  pub refusal-le : planRefusal p ≤ 6
-  unfolding planRefusal
-  refusal-le =
-      first-le (rule1 p) 0 from2 6 (omega arith)
-      (first-le (rule2 p) 1 from3 6 (omega arith)
-      (first-le (rule3 p) 2 from4 6 (omega arith)
-      (first-le (rule4 p) 3 from5 6 (omega arith)
-      (first-le (rule5 p) 4 from6 6 (omega arith)
-      (first-le (rule6 p) 5 [] 6 (omega arith) (omega arith))))))
+  -- an end of an accepted plan is at most a million
+  pub permitted-le : Accepted p → (e : ℕ) → Permitted p e → e ≤ million
+  unfolding million
+  permitted-le ok e (inl z) = omega arith
+  permitted-le ok e (inr (inl z)) = omega arith
+  permitted-le ok e (inr (inr z)) = omega (arith, z .2, ok .threshold-range (z .0) (z .1))
 
   -- ---- what an accepted plan gives the walk of the threshold at place i
 

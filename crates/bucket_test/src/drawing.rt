@@ -69,7 +69,7 @@ fn ends(a: Answer) -> bool
     }
 }
 
-// n and S rise, and each threshold has its turn. For this crate only: nothing refuses the draw.
+// n and S rise, and each threshold has its turn, where nothing refuses the draw.
 fn take_one(p: Plan, s: State, words: &mut [u64], d: u8) -> State
     requires { ⌜
         (planRefusal p ≡ 0)

@@ -74,7 +74,7 @@ pub fn no_state() -> State
     }
 }
 
-// The words of step 0 in one part: count 0 has the whole mass. For this crate only.
+// The words of step 0 in one part: count 0 has the whole mass.
 fn start_part(part: &mut [u64])
     requires { ⌜ length (now part) ≡ wide ⌝ }
     ensures { λ _. ⌜ now (part .exit) ≡ padded (startRow .masses) ⌝ }
@@ -85,8 +85,8 @@ fn start_part(part: &mut [u64])
     part[0] = 4398046511104;
 }
 
-// .. in each of so many parts. For this crate only.
-pub fn start_parts(words: &mut [u64], count: usize)
+// .. in each of so many parts.
+pub(crate) fn start_parts(words: &mut [u64], count: usize)
     requires { ⌜ (count ≤ 10) × (length (now words) ≡ wide * count) ⌝ }
     ensures { λ _. ⌜ now (words .exit) ≡ joinTo count (λ i. padded (startRow .masses)) ⌝ }
 {

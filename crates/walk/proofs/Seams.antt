@@ -12,7 +12,7 @@ use lib.Signed.{leZ}
 use Rattle.walk.specs.Numbers.{le?, lt?, eqZ?}
 use Rattle.walk.specs.Units.{M, million, wide}
 use Rattle.walk.specs.Spending.{IsSpending}
-use Rattle.walk.specs.Walk.{Walk, below, lower, walk, firstAt, upperAt, NoWideBefore}
+use Rattle.walk.specs.Walk.{Walk, below, lower, firstAt, upperAt, wide?, NoWideBefore}
 use Rattle.walk.specs.Row.{Row, upper, startRow, stepRow, rows}
 use Rattle.walk.specs.Strings.{Draws, ones, Side, Upper, Lower, Reaches, judged, verdict, orElse, mark, settled, isOpen}
 use Rattle.walk.specs.Record.{recordOf, isWide, padded}
@@ -34,7 +34,7 @@ start-words = refl
 
 -- step 0 is not wide
 pub start-not-wide : isWide (recordOf startRow) ≡ false
-unfolding isWide recordOf startRow below eqZ?
+unfolding isWide wide? wide recordOf startRow below eqZ?
 start-not-wide = refl
 
 -- words after the live counts are zero

@@ -41,7 +41,7 @@ fn boundaries_sound(w: Walked, n: u32, ones: u32, e: u64) -> bool
 }
 
 // Whether each word is at most 2^43. The pass runs at every draw, so it has no branch: x - x / 2^43 reaches 2^43 exactly when x is over it.
-// For this crate only: so many quotients cannot overflow.
+// So many quotients cannot overflow.
 fn all_fit(words: &[u64]) -> bool
     requires { ⌜ length (now words) ≤ wide ⌝ }
     ensures { λ r. ⌜ r ≡ allUpTo massLimit (now (words .entry)) ⌝ }
@@ -56,7 +56,7 @@ fn all_fit(words: &[u64]) -> bool
     over == 0
 }
 
-// The words' sum. For this crate only: so many words that fit cannot overflow.
+// The words' sum: so many words that fit cannot overflow.
 fn sum_up(words: &[u64]) -> u64
     requires { ⌜ (length (now words) ≤ wide) × (allUpTo massLimit (now words) ≡ true) ⌝ }
     ensures { λ r. ⌜ r ≡ sum (now (words .entry)) ⌝ }
@@ -84,7 +84,7 @@ fn is_whole(live: u64, over: u64, under: u64) -> bool
     under >= missing - over
 }
 
-// How many words are live: one for each live count, or those that are there. For this crate only.
+// How many words are live: one for each live count, or those that are there.
 fn live_words(w: Walked, len: usize) -> usize
     requires { ⌜ (w .lower ≡ below (firstAbove (w .lower))) × (firstAbove (w .lower) ≤ w .upper) ⌝ }
     ensures { λ r. ⌜ r ≡ choose (le? (w .upper - firstAbove (w .lower)) len) (w .upper - firstAbove (w .lower)) len ⌝ }

@@ -6,7 +6,8 @@ use lib.ListN.{length}
 use Rattle.walk.specs.Units.{wide}
 use Rattle.bucket_test.specs.Plan.{planRefusal}
 use Rattle.bucket_test.specs.Draw.{startWords}
-use Rattle.bucket_test.proofs.DrawingLaws.{places, hands, words-fit, words-do-not, begun-plan, begun-8, begun-0}
+use Rattle.bucket_test.proofs.PlaceLists.{words-say}
+use Rattle.bucket_test.proofs.DrawingLaws.{places, hands, words-do-not, begun-plan, begun-8, begun-0}
 use borrow.Author.Needs.{needs}
 use Rattle.bucket_test.proofs.drawing.begin.Statement.{statement}
 use Rattle.bucket_test.proofs.drawing.begin.Tie as tie
@@ -66,7 +67,7 @@ same-length c = search needs
 returns-3 : tie.Need-returns-3
 unfolding startWords
 returns-3 c =
-    hands (begun-0 _ _ (good (c .before .before .before .before .before .before .before .before)) (words-fit _ _ (long (c .before .before .before .before .before .before))))
+    hands (begun-0 _ _ (good (c .before .before .before .before .before .before .before .before)) (words-say _ _ .1 (long (c .before .before .before .before .before .before))))
     (rw (c .answer-of .ensures, c .before .start-state .ensures)) (c .before .before .before .before .start-parts .ensures)
 
 pub begin-spec : {M : Type 1} → statement M

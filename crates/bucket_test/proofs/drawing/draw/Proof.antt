@@ -10,7 +10,8 @@ use Rattle.bucket_test.specs.Words.{wordsFit}
 use Rattle.bucket_test.specs.Answers.{answerOf, isEnding}
 use Rattle.bucket_test.specs.Draw.{stateSound}
 use Rattle.bucket_test.proofs.PlaceLaws.{passed, failed}
-use Rattle.bucket_test.proofs.DrawingLaws.{places, hands, words-fit, words-do-not, drawn-plan, drawn-8, drawn-9, drawn-10, drawn-11, drawn-0}
+use Rattle.bucket_test.proofs.PlaceLists.{words-say}
+use Rattle.bucket_test.proofs.DrawingLaws.{places, hands, words-do-not, drawn-plan, drawn-8, drawn-9, drawn-10, drawn-11, drawn-0}
 use borrow.Author.Needs.{needs}
 use Rattle.bucket_test.proofs.drawing.draw.Statement.{statement}
 use Rattle.bucket_test.proofs.drawing.draw.Tie as tie
@@ -24,7 +25,7 @@ unfolding wide
 long c = c .if2 .left
 
 fits : (c : tie.Else2) → wordsFit (c .before .before .before .before .before .args .p) (c .before .before .before .before .before .args .words .now) ≡ true
-fits c = words-fit _ _ (long c)
+fits c = words-say _ _ .1 (long c)
 
 over : (c : tie.After-ends) → c .ends .result ≡ isEnding (answerOf (c .before .before .before .before .before .before .before .before .args .p) (c .before .before .before .before .before .before .before .before .args .s))
 over c = c .ends .ensures ∙ ap isEnding (c .before .answer-of .ensures)
