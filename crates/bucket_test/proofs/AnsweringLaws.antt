@@ -42,18 +42,19 @@ module _ (p : Plan) (s : State) (low high : ℕ) (low-is : low ≡ lowOf p s) (h
     decided l = rw (rule, le?-fails (suc high) low (omega arith), ← place, le?-complete (suc j) (p .buckets) l, add-one j)
 
     module _ (none : p .buckets ≤ j) where
-      pub wide : true ≡ anyWide p s → Wide ≡ answerOf p s
+      undecided : answerOf p s ≡ firstThatFits false false j (anyWide p s) (eq? (s .n) (p .horizon))
       unfolding answerBy
-      wide e = rw (rule, le?-fails (suc high) low (omega arith), ← place, le?-fails (suc j) (p .buckets) (omega arith), ← e)
+      undecided = rw (rule, le?-fails (suc high) low (omega arith), ← place, le?-fails (suc j) (p .buckets) (omega arith))
+
+      pub wide : true ≡ anyWide p s → Wide ≡ answerOf p s
+      wide e = rw (undecided, ← e)
 
       module _ (thin : false ≡ anyWide p s) where
         pub spent : s .n ≡ p .horizon → Spent ≡ answerOf p s
-        unfolding answerBy
-        spent e = rw (rule, le?-fails (suc high) low (omega arith), ← place, le?-fails (suc j) (p .buckets) (omega arith), ← thin, eq?-complete (s .n) (p .horizon) e)
+        spent e = rw (undecided, ← thin, eq?-complete (s .n) (p .horizon) e)
 
         pub open-yet : ¬ (s .n ≡ p .horizon) → Open ≡ answerOf p s
-        unfolding answerBy
-        open-yet e = rw (rule, le?-fails (suc high) low (omega arith), ← place, le?-fails (suc j) (p .buckets) (omega arith), ← thin, eq?-fails (s .n) (p .horizon) e)
+        open-yet e = rw (undecided, ← thin, eq?-fails (s .n) (p .horizon) e)
 
 -- ---- what else is known of the rule
 

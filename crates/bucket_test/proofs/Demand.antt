@@ -99,7 +99,10 @@ module _ (p : Plan) (ok : Accepted p) (good : planRefusal p ≡ 0) (words : List
   held-begin = record {
     state-is = rw begin-accepted (start-state p ok);
     words-is = rw begin-accepted (start-words p ok);
-    history = record { in-time = omega arith; narrow = λ i l. rw (mark-nil (thresholdAt p i) (spendingOf p i)) (narrow-start (thresholdAt p i) (spendingOf p i)) };
+    history = record {
+      in-time = omega arith;
+      narrow = λ i l. rw (mark-nil (thresholdAt p i) (spendingOf p i)) (narrow-start (thresholdAt p i) (spendingOf p i));
+    };
     ended-is = rw (← (start-state p ok), start-open p ok);
     answered = rw begin-accepted (start-open p ok);
   }
@@ -119,12 +122,16 @@ module _ (p : Plan) (ok : Accepted p) (good : planRefusal p ≡ 0) (words : List
     abbrev call : ℕ → Outcome
     call r = drawnBy r p (carried p words ds .state) (carried p words ds .words) d
 
+    -- the draws taken then
+    abbrev next : ℕ → Draws
+    next r = takenBy (refusalOf (call r .answer)) d (taken p words ds)
+
     -- what it does, as `Held` of one draw more says it
     pub record Took (r : ℕ) : Type 0 where
-      pub state-is : call r .state ≡ stateFor p (takenBy (refusalOf (call r .answer)) d (taken p words ds))
-      pub words-is : call r .words ≡ wordsFor p (takenBy (refusalOf (call r .answer)) d (taken p words ds))
-      pub history : History p (takenBy (refusalOf (call r .answer)) d (taken p words ds))
-      pub ended-is : isEnding (answerOf p (stateFor p (takenBy (refusalOf (call r .answer)) d (taken p words ds)))) ≡ (isEnding (call r .answer) || hasEnded p words ds)
+      pub state-is : call r .state ≡ stateFor p (next r)
+      pub words-is : call r .words ≡ wordsFor p (next r)
+      pub history : History p (next r)
+      pub ended-is : isEnding (answerOf p (stateFor p (next r))) ≡ (isEnding (call r .answer) || hasEnded p words ds)
       pub answers : AnswersDraw p d (hasEnded p words ds) (call r)
 
     refused : (r : ℕ) → AnswersDraw p d (hasEnded p words ds) (call (suc r)) → Took (suc r)
@@ -140,8 +147,8 @@ module _ (p : Plan) (ok : Accepted p) (good : planRefusal p ≡ 0) (words : List
     accepts bit open-yet =
         let t : Draws = taken p words ds in
         let none : refusalOf (call 0 .answer) ≡ 0 = rule-answers p (call 0 .state) in
-        let state : call 0 .state ≡ stateFor p (le? 1 d ∷ taken p words ds) = rw (h .state-is, h .words-is) (next-state p ok t (h .history) d bit) in
-        let next-words-are : call 0 .words ≡ wordsFor p (le? 1 d ∷ taken p words ds) = rw (h .state-is, h .words-is) (next-words p ok t (h .history) d bit) in
+        let state : call 0 .state ≡ stateFor p (le? 1 d ∷ t) = rw (h .state-is, h .words-is) (next-state p ok t (h .history) d bit) in
+        let next-words-are : call 0 .words ≡ wordsFor p (le? 1 d ∷ t) = rw (h .state-is, h .words-is) (next-words p ok t (h .history) d bit) in
         record {
           state-is = rw none state;
           words-is = rw none next-words-are;
@@ -209,7 +216,8 @@ module _ (p : Plan) (ok : Accepted p) (good : planRefusal p ≡ 0) (words : List
       unfolding recordAfter partAfter
       stands-now =
           rw (mark-now, record-now, part-now)
-          (stands-at (thresholdAt p i) (spendingOf p i) (threshold-ok p ok i l) (spends p ok i l) (markAt p i t) (length t) (size-at p ok t (held ds .history) i l))
+          (stands-at (thresholdAt p i) (spendingOf p i) (threshold-ok p ok i l) (spends p ok i l) (markAt p i t) (length t)
+          (size-at p ok t (held ds .history) i l))
 
     stays : (d : ℕ) → ¬ (refusalOf (carried p words (d ∷ ds) .answer) ≡ 0)
         → (carried p words (d ∷ ds) .state ≡ carried p words ds .state) × (carried p words (d ∷ ds) .words ≡ carried p words ds .words)

@@ -70,7 +70,9 @@ module _ (p : Plan) where
 
     pub start-words : startWords p ≡ wordsFor []
     unfolding startWords wordsFor partAfter
-    start-words = join-cong (p .count) _ _ (λ i l. rw (mark-nil (thresholdAt p i) (spendingOf p i)) (sym (start-for (thresholdAt p i) (spendingOf p i) .1)))
+    start-words =
+        join-cong (p .count) _ _
+        (λ i l. rw (mark-nil (thresholdAt p i) (spendingOf p i)) (sym (start-for (thresholdAt p i) (spendingOf p i) .1)))
 
     module _ (s : Draws) (h : History s) where
       pub size-at : (i : ℕ) → i < p .count → length (partAfter s i) ≡ wide
@@ -79,7 +81,9 @@ module _ (p : Plan) where
 
       pub record-at : (i : ℕ) → i < p .count → recordAt (stateFor s) i ≡ recordAfter s i
       unfolding stateFor
-      record-at i l = over-get (p .count) (λ i t. recordAfter s i) (replicate 10 startRecord) i noRecord l (omega (arith, ok .count-range, length-replicate 10 startRecord))
+      record-at i l =
+          over-get (p .count) (λ i t. recordAfter s i) (replicate 10 startRecord) i noRecord l
+          (omega (arith, ok .count-range, length-replicate 10 startRecord))
 
       pub mark-at : (i : ℕ) → i < p .count → recordAt (stateFor s) i .mark ≡ markAt i s
       unfolding recordAfter
@@ -103,7 +107,12 @@ module _ (p : Plan) where
 
       pub state-sound : stateSound p (stateFor s) (wordsFor s) ≡ true
       unfolding stateSound stateFor
-      state-sound = cc (le?-complete (length s) (p .horizon) (h .in-time), le?-complete (ones s) (length s) (ones-le s), all-reads _ (p .count) .1 sound-at)
+      state-sound =
+          cc (
+            le?-complete (length s) (p .horizon) (h .in-time),
+            le?-complete (ones s) (length s) (ones-le s),
+            all-reads _ (p .count) .1 sound-at,
+          )
 
       -- ---- one more draw, 0 or 1
 

@@ -11,6 +11,7 @@ use Rattle.bucket_test.specs.Plan.{planRefusal}
 use Rattle.bucket_test.specs.Words.{wordsFit}
 use Rattle.bucket_test.specs.Turn.{startRecord, noRecord, recordAt, recordTurn, partTurn, soundAt}
 use Rattle.bucket_test.specs.Answers.{lowOf, highOf, answerOf, isEnding, goesOn}
+use Rattle.bucket_test.specs.declared.Threshold.{Threshold}
 use Rattle.bucket_test.specs.declared.State.{State}
 use Rattle.bucket_test.specs.declared.Plan.{Plan}
 use Rattle.bucket_test.specs.declared.Drawn.{Drawn}
@@ -32,16 +33,20 @@ outcomeOf d words = record { answer = d .answer; state = d .state; words = words
 
 -- ---- a beginning: plan, 8
 
+-- before any draw, ten of one record
+abbrev pub tenOf : Threshold → State
+tenOf t = record { n = 0; ones = 0; records = replicate 10 t }
+
 -- ten open records with step 0's boundaries, and each part the words of step 0
 unfoldable pub startState : State
-startState = record { n = 0; ones = 0; records = replicate 10 startRecord }
+startState = tenOf startRecord
 
 unfoldable pub startWords : Plan → List ℕ
 startWords p = joinTo (p .count) (λ i. padded (startRow .masses))
 
 -- no state: zeros in every number, and open marks
 unfoldable pub noState : State
-noState = record { n = 0; ones = 0; records = replicate 10 noRecord }
+noState = tenOf noRecord
 
 unfoldable pub beginRefusal : Plan → List ℕ → ℕ
 beginRefusal p words = firstRefusal (planRefusal p ∷ unless (wordsFit p words) 8 ∷ [])

@@ -2,11 +2,11 @@
 use mathlib.Core.Bool.{Bool, _&&_}
 use mathlib.Core.List.{List}
 use Prim.Native.Nat.{ℕ}
-use lib.IntN.{pos}
+use lib.IntN.{ℤ, pos, negsuc}
 use lib.ListN.{getD}
 use lib.Signed.{leZ}
 use Rattle.walk.specs.Numbers.{le?}
-use Rattle.walk.specs.Row.{Row, startRow, stepRow}
+use Rattle.walk.specs.Row.{Row, stepRow}
 use Rattle.walk.specs.Strings.{judged, isOpen}
 use Rattle.walk.specs.Record.{rowOf, recordOf, isWide, padded}
 use Rattle.walk.specs.Soundness.{isSound, Steppable}
@@ -20,12 +20,15 @@ use Rattle.bucket_test.specs.declared.Plan.{Plan}
 use Rattle.bucket_test.specs.declared.Threshold.{Threshold}
 use Rattle.bucket_test.specs.declared.State.{State}
 
--- an open record with the boundaries of step 0; the record of a refused beginning, zeros in every number
+-- an open record with these boundaries and nothing spent: that of step 0, and that of a refused beginning, zeros in every number
+abbrev pub openRecord : ℤ → ℕ → Threshold
+openRecord lower upper = record { mark = Open; walked = record { lower = lower; upper = upper; over = 0; under = 0 } }
+
 unfoldable pub startRecord : Threshold
-startRecord = record { mark = Open; walked = recordOf startRow }
+startRecord = openRecord (negsuc 0) 1
 
 abbrev pub noRecord : Threshold
-noRecord = record { mark = Open; walked = record { lower = pos 0; upper = 0; over = 0; under = 0 } }
+noRecord = openRecord (pos 0) 0
 
 -- the record at place i
 abbrev pub recordAt : State → ℕ → Threshold

@@ -49,7 +49,7 @@ unfolding firstBucket contains
 returns c =
     let k = c .before .before .before .before .before .before .args in
     let l = c .before .before .before .loop in
-    sym (search-stops (k .p .buckets) (l .j) (holding (k .p .left) (k .p .right) (k .low) (k .high)) (λ h. sym (c .before .holds-interval .ensures) ∙ c .if1 .taken))
+    sym (search-stops _ (l .j) (holding (k .p .left) (k .p .right) (k .low) (k .high)) (λ h. sym (c .before .holds-interval .ensures) ∙ c .if1 .taken))
     ∙ l .inv .1
 
 add-j : tie.Need-add-j Inv-loop μ-loop
@@ -63,7 +63,8 @@ loop-again c =
     let k = c .before .before .before .before .before .before .args in
     let l = c .before .before .before .loop in (
       omega arith,
-      sym (search-more (k .p .buckets) (l .j) (holding (k .p .left) (k .p .right) (k .low) (k .high)) (omega arith) (sym (c .before .holds-interval .ensures) ∙ c .if1 .left)) ∙ l .inv .1,
+      sym (search-more _ (l .j) (holding (k .p .left) (k .p .right) (k .low) (k .high)) (c .before .before .loop-test .taken) (sym (c .before .holds-interval .ensures) ∙ c .if1 .left))
+          ∙ l .inv .1,
     )
 
 returns-2 : tie.Need-returns-2 Inv-loop μ-loop

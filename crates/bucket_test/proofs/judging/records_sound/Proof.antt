@@ -48,8 +48,10 @@ element-copy-out-spending-at c = search needs
 
 spending-at-requires : tie.Need-spending-at-requires Inv-loop μ-loop
 spending-at-requires c κs =
-    let ok = accepted (c .before .before .before .before .before .args .t1) .0 (c .before .before .before .before .before .pre .0) in
-    (ok .allowance-range (c .before .before .before .loop .i) (c .before .before .loop-test .taken) .1, ok .delay-range .0, omega (arith, c .before .before .before .before .before .pre .2))
+    let b = c .before .before in
+    let h = b .before .before .before .pre in
+    let ok = accepted (b .before .before .before .args .t1) .0 (h .0) in
+    (ok .allowance-range (b .before .loop .i) (b .loop-test .taken) .1, ok .delay-range .0, omega (arith, h .2))
 
 mul-at : tie.Need-mul-at Inv-loop μ-loop
 mul-at c = search needs
@@ -73,15 +75,19 @@ record-sound-requires : tie.Need-record-sound-requires Inv-loop μ-loop
 record-sound-requires c κs = search needs
 
 judged : (c : tie.After-record-sound Inv-loop μ-loop)
-    → let a = c .before .before .before .before .before .before .before .before .args in c .record-sound .result ≡ passes (a .t1) (a .t2) (a .words .now) (c .before .before .before .before .before .before .loop .i)
+    → let l = c .before .before .before .before .before .before in
+    let a = l .before .before .args in
+    c .record-sound .result ≡ passes (a .t1) (a .t2) (a .words .now) (l .loop .i)
 unfolding spendingOf
-judged c = c .record-sound .ensures ∙ rw (c .before .before .spending-at .ensures, part-lent (c .before .before .before .before .before .before .loop .i) (c .before .before .before .before .before .before .before .before .args .words .now))
+judged c =
+    let l = c .before .before .before .before .before .before in
+    c .record-sound .ensures ∙ rw (c .before .before .spending-at .ensures, part-lent (l .loop .i) (l .before .before .args .words .now))
 
 returns : tie.Need-returns Inv-loop μ-loop
 returns c =
-    let a = c .before .before .before .before .before .before .before .before .before .args in
-    let l = c .before .before .before .before .before .before .before .loop in
-    sym (all-fails (passes (a .t1) (a .t2) (a .words .now)) (a .t1 .count) (l .i) (c .before .before .before .before .before .before .loop-test .taken) (failed (judged (c .before)) (c .if1 .taken)))
+    let b = c .before .before .before .before .before .before in
+    let a = b .before .before .before .args in
+    sym (all-fails (passes (a .t1) (a .t2) (a .words .now)) (a .t1 .count) (b .before .loop .i) (b .loop-test .taken) (failed (judged (c .before)) (c .if1 .taken)))
 
 add-i : tie.Need-add-i Inv-loop μ-loop
 add-i c = search needs

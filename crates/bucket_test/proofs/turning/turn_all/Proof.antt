@@ -67,9 +67,10 @@ element-copy-out-spending-at c = search needs
 
 spending-at-requires : tie.Need-spending-at-requires Inv-loop μ-loop
 spending-at-requires c κs =
-    let a = c .before .before .before .before .before .before .args in
-    let ok = accepted (a .t1) .0 (c .before .before .before .before .before .before .pre .0) in
-    (ok .allowance-range (c .before .before .before .before .loop .i) (c .before .before .before .loop-test .taken) .1, ok .delay-range .0, omega (arith, c .before .before .before .before .before .before .pre .2))
+    let b = c .before .before .before in
+    let h = b .before .before .before .pre in
+    let ok = accepted (b .before .before .before .args .t1) .0 (h .0) in
+    (ok .allowance-range (b .before .loop .i) (b .loop-test .taken) .1, ok .delay-range .0, omega (arith, h .2))
 
 mul-at : tie.Need-mul-at Inv-loop μ-loop
 mul-at c = search needs
@@ -105,10 +106,10 @@ now-at c =
 turn-requires : tie.Need-turn-requires Inv-loop μ-loop
 unfolding spendingOf
 turn-requires c κs =
-    let a = c .before .before .before .before .before .before .before .before .args in
-    let l = c .before .before .before .before .before .before .loop in
+    let b = c .before .before .before .before .before in
+    let s = b .before .before .before in
     let k = now-at (c .before) in
-    may-turn _ (a .n) (a .ones) (c .before .spending-at .ensures) (k .0) (k .1) (c .before .before .before .before .before .before .before .before .pre .3 (l .i) (c .before .before .before .before .before .loop-test .taken))
+    may-turn _ (s .args .n) (s .args .ones) (c .before .spending-at .ensures) (k .0) (k .1) (s .pre .3 (b .before .loop .i) (b .loop-test .taken))
 
 mul-next : tie.Need-mul-next Inv-loop μ-loop
 mul-next c = search needs
@@ -149,7 +150,7 @@ returns c =
     let l = c .before .loop in
     let ended : l .i ≡ a .t1 .count = omega arith in (
       l .inv .4 ∙ ap (λ (k : ℕ). overTo k (recordTurn (a .t1) (a .words .now) (a .n) (a .ones)) (a .records)) ended,
-      l .inv .5 ∙ words-all (partOf (a .t1) (a .records) (a .words .now) (a .n) (a .ones)) (a .words .now) (a .t1 .count) (l .i) (c .before .before .before .pre .1) ended,
+      l .inv .5 ∙ words-all (partOf (a .t1) (a .records) (a .words .now) (a .n) (a .ones)) _ (a .t1 .count) (l .i) (c .before .before .before .pre .1) ended,
     )
 
 pub turn-all-spec : {M : Type 1} → statement M
