@@ -30,7 +30,6 @@ startRecord = openRecord (negsuc 0) 1
 abbrev pub noRecord : Threshold
 noRecord = openRecord (pos 0) 0
 
--- the record at place i
 abbrev pub recordAt : State → ℕ → Threshold
 recordAt s i = getD (s .records) i noRecord
 

@@ -51,7 +51,7 @@ fn narrowed(v: Interval, m: Mark, t: u32) -> Interval
     }
 }
 
-// The interval of a state: an accepted plan has no more thresholds.
+// The interval of a state. An accepted plan has at most ten thresholds.
 pub(crate) fn interval_of(p: Plan, s: State) -> Interval
     requires { ⌜ p .count ≤ 10 ⌝ }
     ensures { λ r. ⌜ (r .low ≡ lowOf p s) × (r .high ≡ highOf p s) ⌝ }
@@ -73,7 +73,6 @@ pub(crate) fn interval_of(p: Plan, s: State) -> Interval
     v
 }
 
-// An open threshold that is wide.
 fn open_and_wide(t: Threshold) -> bool
     ensures { λ r. ⌜ r ≡ wideOpen t ⌝ }
 {
@@ -86,7 +85,6 @@ fn open_and_wide(t: Threshold) -> bool
     }
 }
 
-// Whether an open threshold is wide.
 fn any_wide(p: Plan, s: State) -> bool
     requires { ⌜ p .count ≤ 10 ⌝ }
     ensures { λ r. ⌜ r ≡ anyWide p s ⌝ }

@@ -54,7 +54,6 @@ pub fn begin(p: Plan, words: &mut [u64]) -> Drawn
     }
 }
 
-// Whether an answer ends the test.
 fn ends(a: Answer) -> bool
     ensures { λ r. ⌜ r ≡ isEnding a ⌝ }
 {
@@ -143,7 +142,6 @@ pub fn report_on(p: Plan, s: State) -> Report
     }
 }
 
-// Whether an answer is `open`.
 pub fn is_open(a: Answer) -> bool
     ensures { λ r. ⌜ r ≡ goesOn a ⌝ }
 {

@@ -189,7 +189,9 @@ cut-at : (f d m : ℕ) (xs : List ℕ) (c : ℕ) → only (between (f + d) (f + 
 cut-at f d m xs =
     by-place (f + d) (λ c. only (between (f + d) (f + d + m) c) (byCount f xs c) ≡ byCount (f + d) (take m (drop d xs)) c)
     (λ c h. rw (le?-fails (f + d) c h) (sym (at-below (f + d) (take m (drop d xs)) c h)))
-    (λ i. rw (at-add (f + d) (take m (drop d xs)) i, le?-complete (f + d) (f + d + i) (omega arith), add-assoc f d i, at-add f xs (d + i)) (here i (lt? (f + (d + i)) (f + d + m)) (test (suc (f + (d + i))) (f + d + m))))
+    (λ i.
+    rw (at-add (f + d) (take m (drop d xs)) i, le?-complete (f + d) (f + d + i) (omega arith), add-assoc f d i, at-add f xs (d + i))
+    (here i (lt? (f + (d + i)) (f + d + m)) (test (suc (f + (d + i))) (f + d + m))))
   where
     here : (i : ℕ) (b : Bool) → Le? (suc (f + (d + i))) (f + d + m) b → only b (getD xs (d + i) 0) ≡ getD (take m (drop d xs)) i 0
     here i true (le k) = sym (getD-take m (drop d xs) i 0 (omega arith) ∙ getD-drop d xs i 0)

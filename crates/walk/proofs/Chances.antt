@@ -65,7 +65,8 @@ module _ (a : ℕ) (threshold : a ≤ million) (E : ℕ → ℕ) (spends : IsSpe
 
   -- ---- one step of the walk, by the verdict on each count
 
-  verdicts : (t c : ℕ) → (isOpen (verdict F U t c) ≡ between (F t) (U t) c) × (isOn Upper (verdict F U t c) ≡ le? (U t) c) × (isOn Lower (verdict F U t c) ≡ lt? c (F t))
+  verdicts : (t c : ℕ) → let v = verdict F U t c in
+      (isOpen v ≡ between (F t) (U t) c) × (isOn Upper v ≡ le? (U t) c) × (isOn Lower v ≡ lt? c (F t))
   verdicts t c = verdict-tests F U t c (orders t)
 
   mass-suc : (n c : ℕ) → walk a E (suc n) .mass c ≡ only (isOpen (verdict F U (suc n) c)) (newMass a (walk a E n .mass) c)
@@ -73,7 +74,8 @@ module _ (a : ℕ) (threshold : a ≤ million) (E : ℕ → ℕ) (spends : IsSpe
   mass-suc n c = rw (verdicts (suc n) c .0)
 
   spent-suc : (side : Side) (n : ℕ)
-      → spent side (walk a E (suc n)) ≡ spent side (walk a E n) + sumTo (suc (suc n)) (λ c. only (isOn side (verdict F U (suc n) c)) (newMass a (walk a E n .mass) c))
+      → spent side (walk a E (suc n))
+      ≡ spent side (walk a E n) + sumTo (suc (suc n)) (λ c. only (isOn side (verdict F U (suc n) c)) (newMass a (walk a E n .mass) c))
   unfolding walk stepWalk absorbed firstAt upperAt massFrom massBelow
   spent-suc Upper n = ap (λ (x : ℕ). walk a E n .over + x) (sum-cong (suc (suc n)) _ _ (λ c l. rw (verdicts (suc n) c .1)))
   spent-suc Lower n = ap (λ (x : ℕ). walk a E n .under + x) (sum-cong (suc (suc n)) _ _ (λ c l. rw (verdicts (suc n) c .2)))

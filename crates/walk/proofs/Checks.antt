@@ -36,7 +36,9 @@ unfolding rowOf recordOf padded
 row-back r = λ i. record { first = above-below (r .first) i; masses = masses-back i; over = r .over; under = r .under }
   where
     masses-back : take (upper r - firstAbove (below (r .first))) (r .masses ++ replicate (wide - length (r .masses)) 0) ≡ r .masses
-    masses-back = take-at (r .masses) (replicate (wide - length (r .masses)) 0) (upper r - firstAbove (below (r .first))) (rw (above-below (r .first)) (omega arith))
+    masses-back =
+        take-at (r .masses) (replicate (wide - length (r .masses)) 0) (upper r - firstAbove (below (r .first)))
+        (rw (above-below (r .first)) (omega arith))
 
 -- a row's record is wide exactly when the row has 769 live counts
 pub narrow-record : (r : Row) → (isWide (recordOf r) ≡ false) ↔ (¬ (length (r .masses) ≡ wide))
@@ -59,6 +61,9 @@ pub record Between (e n s f : ℕ) (w : Walked) : Type 0 where
   pub under-fits : w .under ≤ e
 
 module _ (e n s : ℕ) (w : Walked) where
+  apart : (f : ℕ) → w .lower ≡ below f → f ≤ w .upper → pos (w .upper) -ℤ w .lower ≡ pos (suc (w .upper - f))
+  apart f z h = ap (λ (y : ℤ). pos (w .upper) -ℤ y) z ∙ apart-below (w .upper) f h
+
   pub boundaries-say : boundariesSound e n s w ≡ true → Between e n s (firstAbove (w .lower)) w
   unfolding boundariesSound
   boundaries-say h =
@@ -69,15 +74,16 @@ module _ (e n s : ℕ) (w : Walked) where
       let a5 = and-true (ltZ (w .lower) (pos s)) _ (a4 .1) in
       let a6 = and-true (lt? s (w .upper)) _ (a5 .1) in
       let a7 = and-true (le? (w .over) e) _ (a6 .1) in
-      let z : w .lower ≡ below (firstAbove (w .lower)) = below-above (w .lower) (a1 .0) in
-      let o : firstAbove (w .lower) < w .upper = apart-order (w .upper) (firstAbove (w .lower)) (ap (λ (y : ℤ). leZ (pos 2) (pos (w .upper) -ℤ y)) (sym z) ∙ a3 .0) in
-      let d : pos (w .upper) -ℤ w .lower ≡ pos (suc (w .upper - firstAbove (w .lower))) = ap (λ (y : ℤ). pos (w .upper) -ℤ y) z ∙ apart-below (w .upper) (firstAbove (w .lower)) (omega arith) in
+      let f : ℕ = firstAbove (w .lower) in
+      let z : w .lower ≡ below f = below-above (w .lower) (a1 .0) in
+      let o : f < w .upper = apart-order (w .upper) f (ap (λ (y : ℤ). leZ (pos 2) (pos (w .upper) -ℤ y)) (sym z) ∙ a3 .0) in
+      let d : pos (w .upper) -ℤ w .lower ≡ pos (suc (w .upper - f)) = apart f z (omega arith) in
       record {
         signed = z;
         top = le?-sound (w .upper) (suc n) (a2 .0);
         order = o;
-        fits = omega (arith, leb-true (suc (w .upper - firstAbove (w .lower))) (suc wide) (ap (λ (y : ℤ). leZ y (pos (suc wide))) (sym d) ∙ a4 .0));
-        from = le?-sound (firstAbove (w .lower)) s (sym (over-below (firstAbove (w .lower)) s) ∙ ap (λ (y : ℤ). ltZ y (pos s)) (sym z) ∙ a5 .0);
+        fits = omega (arith, leb-true (suc (w .upper - f)) (suc wide) (ap (λ (y : ℤ). leZ y (pos (suc wide))) (sym d) ∙ a4 .0));
+        from = le?-sound f s (sym (over-below f s) ∙ ap (λ (y : ℤ). ltZ y (pos s)) (sym z) ∙ a5 .0);
         to = le?-sound (suc s) (w .upper) (a6 .0);
         over-fits = le?-sound (w .over) e (a7 .0);
         under-fits = le?-sound (w .under) e (a7 .1);
@@ -86,7 +92,7 @@ module _ (e n s : ℕ) (w : Walked) where
   pub boundaries-hold : (f : ℕ) → Between e n s f w → boundariesSound e n s w ≡ true
   unfolding boundariesSound
   boundaries-hold f b =
-      let d : pos (w .upper) -ℤ w .lower ≡ pos (suc (w .upper - f)) = ap (λ (y : ℤ). pos (w .upper) -ℤ y) (b .signed) ∙ apart-below (w .upper) f (omega (arith, b .order)) in
+      let d : pos (w .upper) -ℤ w .lower ≡ pos (suc (w .upper - f)) = apart f (b .signed) (omega (arith, b .order)) in
       cc (
         ap (leZ (negsuc 0)) (b .signed) ∙ below-least f,
         le?-complete (w .upper) (suc n) (b .top),

@@ -23,7 +23,6 @@ rowOf w words = record {
   under = w .under;
 }
 
--- the record of a row
 unfoldable pub recordOf : Row → Walked
 recordOf r = record { lower = below (r .first); upper = upper r; over = r .over; under = r .under }
 

@@ -21,7 +21,7 @@ pub record Walk : Type 0 where
   pub over : ℕ
   pub under : ℕ
 
--- the lower boundary
+-- (01: lower bar)
 unfoldable pub lower : Walk → ℤ
 lower w = below (w .first)
 

@@ -63,7 +63,9 @@ loop-again c =
     let k = c .before .before .before .before .before .before .args in
     let l = c .before .before .before .loop in (
       omega arith,
-      sym (search-more _ (l .j) (holding (k .p .left) (k .p .right) (k .low) (k .high)) (c .before .before .loop-test .taken) (sym (c .before .holds-interval .ensures) ∙ c .if1 .left))
+      sym
+          (search-more _ (l .j) (holding (k .p .left) (k .p .right) (k .low) (k .high)) (c .before .before .loop-test .taken)
+          (sym (c .before .holds-interval .ensures) ∙ c .if1 .left))
           ∙ l .inv .1,
     )
 

@@ -87,7 +87,9 @@ returns : tie.Need-returns Inv-loop μ-loop
 returns c =
     let b = c .before .before .before .before .before .before in
     let a = b .before .before .before .args in
-    sym (all-fails (passes (a .t1) (a .t2) (a .words .now)) (a .t1 .count) (b .before .loop .i) (b .loop-test .taken) (failed (judged (c .before)) (c .if1 .taken)))
+    sym
+    (all-fails (passes (a .t1) (a .t2) (a .words .now)) (a .t1 .count) (b .before .loop .i) (b .loop-test .taken)
+    (failed (judged (c .before)) (c .if1 .taken)))
 
 add-i : tie.Need-add-i Inv-loop μ-loop
 add-i c = search needs

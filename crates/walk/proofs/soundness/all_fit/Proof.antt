@@ -52,8 +52,11 @@ loop-less c = omega arith
 loop-again : tie.Need-loop-again Inv-loop μ-loop
 unfolding massLimit
 loop-again c =
-    let l = c .before .before .loop in
-    (omega arith, omega (arith, few _ (c .shared-slice-known .given (l .i) .fits)), l .inv .2 ∙ fits-more massLimit (l .over) _ (c .before .before .before .args .words .now) (l .i) (omega arith) (λ h. omega arith) (λ h. omega arith))
+    let l = c .before .before .loop in (
+      omega arith,
+      omega (arith, few _ (c .shared-slice-known .given (l .i) .fits)),
+      l .inv .2 ∙ fits-more massLimit (l .over) _ (c .before .before .before .args .words .now) (l .i) (omega arith) (λ h. omega arith) (λ h. omega arith),
+    )
 
 returns : tie.Need-returns Inv-loop μ-loop
 returns c =
