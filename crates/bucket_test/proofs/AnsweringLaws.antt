@@ -1,17 +1,20 @@
--- What a turn of each loop of src/answering.rt leaves to do, and the answer rule case by case. Assumes nothing.
-use mathlib.Core.Path.{_≡_}
+-- What a turn of each loop of src/answering.rt leaves to do, and the answer rule: no other file of laws unfolds it. Assumes nothing.
+use mathlib.Core.Path.{_≡_, refl}
 use mathlib.Core.Bool.{Bool, true, false}
-use Prim.Native.Nat.{ℕ, suc, _+_, _-_, _≤_, _<_, max, min}
+use Prim.Native.Nat.{ℕ, suc, _+_, _≤_, _<_, max, min}
 use native.Mathlib.Numerals.{add-one}
 use native.Mathlib.Omega.{arith}
-use Rattle.walk.specs.Numbers.{searchUp}
-use Rattle.walk.proofs.Tests.{le?-complete, le?-fails}
-use Rattle.bucket_test.specs.Tests.{largestTo, smallestTo}
-use Rattle.bucket_test.specs.Answers.{lowOf, highOf, anyWide, firstBucket, answerBy, answerOf}
+use Rattle.walk.specs.Numbers.{lt?}
+use Rattle.walk.proofs.Tests.{clash, le?-complete, le?-fails}
+use Rattle.walk.proofs.Searches.{search-cong}
+use Rattle.bucket_test.specs.Tests.{eq?, largestTo, smallestTo}
+use Rattle.bucket_test.specs.Plan.{leftAt, rightAt}
+use Rattle.bucket_test.specs.Turn.{recordAt, wideOpen}
+use Rattle.bucket_test.specs.Answers.{lowOf, highOf, anyWide, contains, firstBucket, firstThatFits, answerBy, answerOf, isEnding, refusalOf}
 use Rattle.bucket_test.specs.declared.State.{State}
 use Rattle.bucket_test.specs.declared.Plan.{Plan}
 use Rattle.bucket_test.specs.declared.Answer.the-variants.{Open, Decided, Crossed, Wide, Spent}
-use Rattle.bucket_test.proofs.PlaceLaws.{eq?-complete, eq?-fails}
+use Rattle.bucket_test.proofs.PlaceLaws.{eq?-complete, eq?-fails, eq?-false, none-reads}
 
 -- one place more
 pub largest-more : (i : ℕ) (f : ℕ → ℕ) (least x : ℕ) → x ≡ largestTo i f least → max x (f i) ≡ largestTo (i + 1) f least
@@ -21,23 +24,6 @@ largest-more i f least x e = rw (add-one i, e)
 pub smallest-more : (i : ℕ) (f : ℕ → ℕ) (most x : ℕ) → x ≡ smallestTo i f most → min x (f i) ≡ smallestTo (i + 1) f most
 unfolding smallestTo
 smallest-more i f most x e = rw (add-one i, e)
-
--- a search at place j of n
-pub search-here : (n j : ℕ) (test : ℕ → Bool) → j < n → test j ≡ true → searchUp (n - j) j test ≡ j
-unfolding searchUp
-search-here n j test l e =
-    let s : n - j ≡ suc (n - suc j) = omega arith in
-    rw (s, e)
-
-pub search-more : (n j : ℕ) (test : ℕ → Bool) → j < n → test j ≡ false → searchUp (n - j) j test ≡ searchUp (n - (j + 1)) (j + 1) test
-unfolding searchUp
-search-more n j test l e =
-    let s : n - j ≡ suc (n - suc j) = omega arith in
-    rw (add-one j, s, e)
-
-pub search-end : (n j : ℕ) (test : ℕ → Bool) → n ≤ j → searchUp (n - j) j test ≡ j
-unfolding searchUp
-search-end n j test l = let s : n - j ≡ 0 = omega arith in rw s
 
 -- ---- the answer rule, case by case
 
@@ -56,15 +42,54 @@ module _ (p : Plan) (s : State) (low high : ℕ) (low-is : low ≡ lowOf p s) (h
     decided l = rw (rule, le?-fails (suc high) low (omega arith), ← place, le?-complete (suc j) (p .buckets) l, add-one j)
 
     module _ (none : p .buckets ≤ j) where
-      pub wide : true ≡ anyWide p s → Wide ≡ answerOf p s
+      undecided : answerOf p s ≡ firstThatFits false false j (anyWide p s) (eq? (s .n) (p .horizon))
       unfolding answerBy
-      wide e = rw (rule, le?-fails (suc high) low (omega arith), ← place, le?-fails (suc j) (p .buckets) (omega arith), ← e)
+      undecided = rw (rule, le?-fails (suc high) low (omega arith), ← place, le?-fails (suc j) (p .buckets) (omega arith))
+
+      pub wide : true ≡ anyWide p s → Wide ≡ answerOf p s
+      wide e = rw (undecided, ← e)
 
       module _ (thin : false ≡ anyWide p s) where
         pub spent : s .n ≡ p .horizon → Spent ≡ answerOf p s
-        unfolding answerBy
-        spent e = rw (rule, le?-fails (suc high) low (omega arith), ← place, le?-fails (suc j) (p .buckets) (omega arith), ← thin, eq?-complete (s .n) (p .horizon) e)
+        spent e = rw (undecided, ← thin, eq?-complete (s .n) (p .horizon) e)
 
         pub open-yet : ¬ (s .n ≡ p .horizon) → Open ≡ answerOf p s
-        unfolding answerBy
-        open-yet e = rw (rule, le?-fails (suc high) low (omega arith), ← place, le?-fails (suc j) (p .buckets) (omega arith), ← thin, eq?-fails (s .n) (p .horizon) e)
+        open-yet e = rw (undecided, ← thin, eq?-fails (s .n) (p .horizon) e)
+
+-- ---- what else is known of the rule
+
+-- it refuses nothing; and where its answer does not end the test, nothing is wide and the horizon is not reached
+first-says : (c b : Bool) (j : ℕ) (w e : Bool)
+    → (refusalOf (firstThatFits c b j w e) ≡ 0) × (isEnding (firstThatFits c b j w e) ≡ false → (w ≡ false) × (e ≡ false))
+first-says true b j w e = (refl, clash)
+first-says false true j w e = (refl, clash)
+first-says false false j true e = (refl, clash)
+first-says false false j false true = (refl, clash)
+first-says false false j false false = (refl, λ f. (refl, refl))
+
+module _ (p : Plan) (s : State) where
+  rule-says : (refusalOf (answerOf p s) ≡ 0) × (isEnding (answerOf p s) ≡ false → (anyWide p s ≡ false) × (eq? (s .n) (p .horizon) ≡ false))
+  unfolding answerOf answerBy
+  rule-says = let j = firstBucket p (lowOf p s) (highOf p s) in first-says (lt? (highOf p s) (lowOf p s)) (lt? j (p .buckets)) j _ _
+
+  pub rule-answers : refusalOf (answerOf p s) ≡ 0
+  rule-answers = rule-says .0
+
+  pub not-over : isEnding (answerOf p s) ≡ false → (anyWide p s ≡ false) × (¬ (s .n ≡ p .horizon))
+  not-over e = let h = rule-says .1 e in (h .0, eq?-false (s .n) (p .horizon) (h .1))
+
+  -- no open threshold is wide
+  pub thin-at : anyWide p s ≡ false → (i : ℕ) → i < p .count → wideOpen (recordAt s i) ≡ false
+  unfolding anyWide
+  thin-at = none-reads (λ i. wideOpen (recordAt s i)) (p .count) .0
+
+-- two plans with the same buckets, horizon and interval, and the same that is wide
+module _ (p q : Plan) (buckets : q .buckets ≡ p .buckets) (horizon : q .horizon ≡ p .horizon)
+    (ends : (j : ℕ) → j < p .buckets → (leftAt q j ≡ leftAt p j) × (rightAt q j ≡ rightAt p j)) where
+  bucket-cong : (low high : ℕ) → firstBucket q low high ≡ firstBucket p low high
+  unfolding firstBucket contains
+  bucket-cong low high = rw buckets (search-cong (p .buckets) 0 _ _ (λ j l. rw (ends j (omega arith) .0, ends j (omega arith) .1)))
+
+  pub answer-cong : (s : State) → lowOf q s ≡ lowOf p s → highOf q s ≡ highOf p s → anyWide q s ≡ anyWide p s → answerOf q s ≡ answerOf p s
+  unfolding answerOf answerBy
+  answer-cong s low high wides = rw (low, high, wides, bucket-cong (lowOf p s) (highOf p s), buckets, horizon)

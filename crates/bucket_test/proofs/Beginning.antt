@@ -1,33 +1,23 @@
 -- A beginning answers `open`: no bucket contains the whole, nothing is wide, and the horizon is not 0. Assumes nothing.
-use mathlib.Core.Path.{_≡_, refl, sym, _∙_}
-use mathlib.Core.Logic.{inl, inr}
+use mathlib.Core.Path.{_≡_, refl, sym}
 use mathlib.Core.Bool.{Bool, false, _&&_}
-use Prim.Native.Nat.{ℕ, zero, suc, _+_, _≤_, _<_}
-use native.Mathlib.Nat.{add-zero, add-suc, suc-add}
+use Prim.Native.Nat.{ℕ, zero, suc, _<_}
 use native.Mathlib.Omega.{arith}
-use borrow.Author.Tests.{ne-eqb}
 use lib.ListN.{getD-replicate}
-use Rattle.walk.specs.Numbers.{lt?, searchUp}
 use Rattle.walk.specs.Units.{million}
-use Rattle.walk.specs.Strings.{isOpen}
-use Rattle.walk.specs.Record.{isWide}
-use Rattle.walk.proofs.Tests.{test, Le?, le, gt, le?-fails}
-use Rattle.walk.proofs.Seams.{start-not-wide}
-use Rattle.bucket_test.specs.Tests.{eq?, largestTo, smallestTo}
-use Rattle.bucket_test.specs.Plan.{leftAt, rightAt, Permitted, Accepted}
-use Rattle.bucket_test.specs.Turn.{startRecord, noRecord, recordAt}
-use Rattle.bucket_test.specs.Answers.{lowOf, highOf, anyWide, contains, firstBucket, answerBy, answerOf}
+use Rattle.walk.proofs.Tests.{test, Le?, le, gt}
+use Rattle.walk.proofs.Searches.{search-only}
+use Rattle.walk.proofs.Seams.{start-record as walk-start, start-not-wide}
+use Rattle.bucket_test.specs.Tests.{largestTo, smallestTo}
+use Rattle.bucket_test.specs.Plan.{leftAt, rightAt, Accepted}
+use Rattle.bucket_test.specs.Turn.{startRecord, noRecord, recordAt, wideOpen}
+use Rattle.bucket_test.specs.Answers.{lowOf, highOf, anyWide, contains, firstBucket, answerOf}
 use Rattle.bucket_test.specs.Draw.{startState}
-use Rattle.bucket_test.proofs.PlaceLaws.{none-reads}
 use Rattle.bucket_test.specs.declared.Plan.{Plan}
 use Rattle.bucket_test.specs.declared.Answer.the-variants.{Open}
-
-search-none : (n j : ℕ) (test : ℕ → Bool) → ((i : ℕ) → j ≤ i → i < j + n → test i ≡ false) → searchUp n j test ≡ j + n
-unfolding searchUp
-search-none zero j test e = sym (add-zero j)
-search-none (suc n) j test e =
-    rw (e j (omega arith) (omega arith), add-suc j n)
-    (search-none n (suc j) test (λ i l k. e i (omega arith) (omega arith)) ∙ suc-add j n)
+use Rattle.bucket_test.proofs.PlaceLaws.{none-reads}
+use Rattle.bucket_test.proofs.Rules.{permitted-le}
+use Rattle.bucket_test.proofs.AnsweringLaws.{open-yet}
 
 largest-none : (n : ℕ) (f : ℕ → ℕ) → ((i : ℕ) → i < n → f i ≡ 0) → largestTo n f 0 ≡ 0
 unfolding largestTo
@@ -54,36 +44,27 @@ module _ (p : Plan) (ok : Accepted p) where
 
   start-thin : anyWide p startState ≡ false
   unfolding anyWide startRecord
-  start-thin = none-reads (λ i. isOpen (recordAt startState i .mark) && isWide (recordAt startState i .walked)) (p .count) .1 (λ i l. rw (start-record i l) start-not-wide)
+  start-thin = none-reads (λ i. wideOpen (recordAt startState i)) (p .count) .1 (λ i l. rw (start-record i l) (rw walk-start at start-not-wide))
 
   -- an end is at most a million, so a bucket with left end 0 does not reach it
-  end-le : (e : ℕ) → Permitted p e → e ≤ million
-  unfolding million
-  end-le e (inl z) = omega arith
-  end-le e (inr (inl z)) = omega arith
-  end-le e (inr (inr z)) = omega (arith, z .2, ok .threshold-range (z .0) (z .1))
-
   none-contains : (j : ℕ) → j < p .buckets → contains p 0 million j ≡ false
   unfolding contains
   none-contains j l = go (test (leftAt p j) 0) (test million (rightAt p j))
     where
       go : {x y : Bool} → Le? (leftAt p j) 0 x → Le? million (rightAt p j) y → (x && y) ≡ false
       go (le h) (le k) =
-          absurd (ok .not-whole j l (omega arith, omega (arith, end-le (rightAt p j) (ok .ends-permitted j l .1))))
+          absurd (ok .not-whole j l (omega arith, omega (arith, permitted-le p ok (rightAt p j) (ok .ends-permitted j l .1))))
       go (le h) (gt k) = refl
       go (gt h) k = refl
 
-  no-bucket : lt? (firstBucket p 0 million) (p .buckets) ≡ false
+  no-bucket : p .buckets ≡ firstBucket p 0 million
   unfolding firstBucket
   no-bucket =
-      let e : searchUp (p .buckets) 0 (contains p 0 million) ≡ 0 + p .buckets = search-none (p .buckets) 0 (contains p 0 million) (λ i l k. none-contains i (omega arith)) in
-      rw e (le?-fails (suc (0 + p .buckets)) (p .buckets) (omega arith))
-
-  start-n : eq? (startState .n) (p .horizon) ≡ false
-  unfolding startState eq?
-  start-n = ne-eqb 0 (p .horizon) (λ e. omega (arith, ok .horizon-range))
+      sym (search-only (p .buckets) 0 (p .buckets) (contains p 0 million) (omega arith) (omega arith) (λ l. absurd (omega arith))
+      (λ i l k. none-contains i k))
 
   pub start-open : answerOf p startState ≡ Open
-  unfolding answerOf answerBy
+  unfolding startState
   start-open =
-      rw (start-low, start-high, le?-fails (suc million) 0 (omega arith), no-bucket, start-thin, start-n)
+      sym (open-yet p startState 0 million (sym start-low) (sym start-high) (omega arith) (p .buckets) no-bucket (omega arith) (sym start-thin)
+      (λ e. omega (arith, ok .horizon-range, e)))

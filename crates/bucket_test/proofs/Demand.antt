@@ -1,13 +1,12 @@
 -- Demand 3: the invariant over every list of draws, and what it says. Assumes nothing.
 use mathlib.Core.Path.{_≡_, refl, sym, ap, _∙_}
 use mathlib.Core.Logic.{_⊎_, inl, inr}
-use mathlib.Core.Bool.{Bool, true, false, not, _||_}
+use mathlib.Core.Bool.{Bool, true, false, not, _||_, or-false}
 use mathlib.Core.List.{List, [], _∷_}
 use Prim.Native.Nat.{ℕ, zero, suc, _*_, _≤_, _<_}
 use native.Mathlib.Omega.{arith}
-use borrow.Author.Tests.{eq-eqb}
 use lib.ListN.{length}
-use Rattle.walk.specs.Numbers.{le?, lt?}
+use Rattle.walk.specs.Numbers.{le?}
 use Rattle.walk.specs.Units.{wide}
 use Rattle.walk.specs.Walk.{walk}
 use Rattle.walk.specs.Strings.{Draws, lastStep}
@@ -15,44 +14,28 @@ use Rattle.walk.proofs.Tests.{test, Le?, le, gt, clash}
 use Rattle.walk.proofs.Chances.{meets-says, allowed-always, chances}
 use Rattle.walk.proofs.WalkFacts.{walk-facts}
 use Rattle.walk.proofs.Seams.{mark-nil, narrow-start}
-use Rattle.bucket_test.specs.Tests.{eq?, unless, firstRefusal}
+use Rattle.bucket_test.specs.Tests.{unless, firstRefusal}
 use Rattle.bucket_test.specs.Plan.{thresholdAt, spendingOf, planRefusal, Accepted}
-use Rattle.bucket_test.specs.Words.{partAt, wordsFit, Stands}
+use Rattle.bucket_test.specs.Words.{partAt, Stands}
 use Rattle.bucket_test.specs.Turn.{recordAt}
-use Rattle.bucket_test.specs.Answers.{lowOf, highOf, anyWide, firstBucket, answerOf, answerBy, firstThatFits, isEnding, refusalOf}
+use Rattle.bucket_test.specs.Answers.{answerOf, isEnding, refusalOf}
 use Rattle.bucket_test.specs.Draw.{Outcome, beginRefusal, begun, drawRefusal, nextState, drawnBy, drawn}
 use Rattle.bucket_test.specs.Carried.{carried, hasEnded, takenBy, taken}
 use Rattle.bucket_test.specs.Demand3.{Marks, AnswersDraw, Answered, Demand3, Demand3Theorem}
+use Rattle.bucket_test.proofs.PlaceLists.{words-say}
 use Rattle.bucket_test.proofs.Rules.{threshold-ok, spends, accepted}
+use Rattle.bucket_test.proofs.AnsweringLaws.{rule-answers}
 use Rattle.bucket_test.proofs.Beginning.{start-open}
 use Rattle.bucket_test.proofs.Following.{marks-say, stands-at}
 use Rattle.bucket_test.proofs.Invariant.{markAt, recordAfter, partAfter, stateFor, wordsFor, History, start-state, start-words, record-at, mark-at, part-at, size-at, words-fit, state-sound, next-state, next-words, history-next}
 use Rattle.bucket_test.specs.declared.State.{State}
 use Rattle.bucket_test.specs.declared.Plan.{Plan}
 
--- the answer rule refuses nothing
-fits-any : (c b : Bool) (j : ℕ) (w e : Bool) → refusalOf (firstThatFits c b j w e) ≡ 0
-fits-any true b j w e = refl
-fits-any false true j w e = refl
-fits-any false false j true e = refl
-fits-any false false j false true = refl
-fits-any false false j false false = refl
-
-pub rule-answers : (p : Plan) (s : State) → refusalOf (answerOf p s) ≡ 0
-unfolding answerOf answerBy
-rule-answers p s =
-    fits-any (lt? (highOf p s) (lowOf p s)) (lt? (firstBucket p (lowOf p s) (highOf p s)) (p .buckets)) (firstBucket p (lowOf p s) (highOf p s))
-    (anyWide p s) (eq? (s .n) (p .horizon))
-
 -- a refused draw leaves state and words as they are
 stays-by : (r : ℕ) (p : Plan) (s : State) (ws : List ℕ) (d : ℕ) → ¬ (refusalOf (drawnBy r p s ws d .answer) ≡ 0)
     → (drawnBy r p s ws d .state ≡ s) × (drawnBy r p s ws d .words ≡ ws)
 stays-by zero p s ws d e = absurd (e (rule-answers p (nextState p s ws d)))
 stays-by (suc r) p s ws d e = (refl, refl)
-
-or-none : (x : Bool) → x ≡ (x || false)
-or-none true = refl
-or-none false = refl
 
 -- the refusal that is due to a draw: 9, 10 or none
 unfoldable pub due : ℕ → Bool → ℕ
@@ -108,15 +91,18 @@ module _ (p : Plan) (ok : Accepted p) (good : planRefusal p ≡ 0) (words : List
   -- ---- the beginning
 
   begin-accepted : beginRefusal p words ≡ 0
-  unfolding beginRefusal wordsFit eq?
-  begin-accepted = rw (good, eq-eqb (length words) (wide * p .count) size)
+  unfolding beginRefusal
+  begin-accepted = rw (good, words-say p words .1 size)
 
   held-begin : Held []
   unfolding carried taken hasEnded begun Answered
   held-begin = record {
     state-is = rw begin-accepted (start-state p ok);
     words-is = rw begin-accepted (start-words p ok);
-    history = record { in-time = omega arith; narrow = λ i l. rw (mark-nil (thresholdAt p i) (spendingOf p i)) (narrow-start (thresholdAt p i) (spendingOf p i)) };
+    history = record {
+      in-time = omega arith;
+      narrow = λ i l. rw (mark-nil (thresholdAt p i) (spendingOf p i)) (narrow-start (thresholdAt p i) (spendingOf p i));
+    };
     ended-is = rw (← (start-state p ok), start-open p ok);
     answered = rw begin-accepted (start-open p ok);
   }
@@ -136,12 +122,16 @@ module _ (p : Plan) (ok : Accepted p) (good : planRefusal p ≡ 0) (words : List
     abbrev call : ℕ → Outcome
     call r = drawnBy r p (carried p words ds .state) (carried p words ds .words) d
 
+    -- the draws taken then
+    abbrev next : ℕ → Draws
+    next r = takenBy (refusalOf (call r .answer)) d (taken p words ds)
+
     -- what it does, as `Held` of one draw more says it
     pub record Took (r : ℕ) : Type 0 where
-      pub state-is : call r .state ≡ stateFor p (takenBy (refusalOf (call r .answer)) d (taken p words ds))
-      pub words-is : call r .words ≡ wordsFor p (takenBy (refusalOf (call r .answer)) d (taken p words ds))
-      pub history : History p (takenBy (refusalOf (call r .answer)) d (taken p words ds))
-      pub ended-is : isEnding (answerOf p (stateFor p (takenBy (refusalOf (call r .answer)) d (taken p words ds)))) ≡ (isEnding (call r .answer) || hasEnded p words ds)
+      pub state-is : call r .state ≡ stateFor p (next r)
+      pub words-is : call r .words ≡ wordsFor p (next r)
+      pub history : History p (next r)
+      pub ended-is : isEnding (answerOf p (stateFor p (next r))) ≡ (isEnding (call r .answer) || hasEnded p words ds)
       pub answers : AnswersDraw p d (hasEnded p words ds) (call r)
 
     refused : (r : ℕ) → AnswersDraw p d (hasEnded p words ds) (call (suc r)) → Took (suc r)
@@ -157,13 +147,13 @@ module _ (p : Plan) (ok : Accepted p) (good : planRefusal p ≡ 0) (words : List
     accepts bit open-yet =
         let t : Draws = taken p words ds in
         let none : refusalOf (call 0 .answer) ≡ 0 = rule-answers p (call 0 .state) in
-        let state : call 0 .state ≡ stateFor p (le? 1 d ∷ taken p words ds) = rw (h .state-is, h .words-is) (next-state p ok t (h .history) d bit) in
-        let next-words-are : call 0 .words ≡ wordsFor p (le? 1 d ∷ taken p words ds) = rw (h .state-is, h .words-is) (next-words p ok t (h .history) d bit) in
+        let state : call 0 .state ≡ stateFor p (le? 1 d ∷ t) = rw (h .state-is, h .words-is) (next-state p ok t (h .history) d bit) in
+        let next-words-are : call 0 .words ≡ wordsFor p (le? 1 d ∷ t) = rw (h .state-is, h .words-is) (next-words p ok t (h .history) d bit) in
         record {
           state-is = rw none state;
           words-is = rw none next-words-are;
           history = rw none (history-next p ok t (h .history) d bit (h .ended-is ∙ open-yet));
-          ended-is = rw (none, open-yet) (ap (λ (x : State). isEnding (answerOf p x)) (sym state) ∙ or-none (isEnding (call 0 .answer)));
+          ended-is = rw (none, open-yet) (ap (λ (x : State). isEnding (answerOf p x)) (sym state) ∙ sym (or-false (isEnding (call 0 .answer))));
           answers = answers-rule p d (hasEnded p words ds) (call 0) refl bit open-yet;
         }
 
@@ -226,7 +216,8 @@ module _ (p : Plan) (ok : Accepted p) (good : planRefusal p ≡ 0) (words : List
       unfolding recordAfter partAfter
       stands-now =
           rw (mark-now, record-now, part-now)
-          (stands-at (thresholdAt p i) (spendingOf p i) (threshold-ok p ok i l) (spends p ok i l) (markAt p i t) (length t) (size-at p ok t (held ds .history) i l))
+          (stands-at (thresholdAt p i) (spendingOf p i) (threshold-ok p ok i l) (spends p ok i l) (markAt p i t) (length t)
+          (size-at p ok t (held ds .history) i l))
 
     stays : (d : ℕ) → ¬ (refusalOf (carried p words (d ∷ ds) .answer) ≡ 0)
         → (carried p words (d ∷ ds) .state ≡ carried p words ds .state) × (carried p words (d ∷ ds) .words ≡ carried p words ds .words)

@@ -7,10 +7,9 @@ use Prim.Native.Nat.{ℕ, zero, suc, _+_, _*_, _≤_, _<_}
 use native.Mathlib.Nat.{le-of-lt}
 use native.Mathlib.Numerals.{add-one}
 use native.Mathlib.Omega.{arith}
-use borrow.Author.Tests.{eqb-false}
 use lib.ListN.{length, drop, getD, drop-of-length-le}
 use lib.Seq.{drop-cons}
-use Rattle.walk.specs.Numbers.{le?, lt?}
+use Rattle.walk.specs.Numbers.{le?}
 use Rattle.walk.specs.Units.{million, wide, horizonLimit}
 use Rattle.walk.specs.Spending.{IsSpending}
 use Rattle.walk.specs.Strings.{isOpen}
@@ -19,21 +18,20 @@ use Rattle.walk.specs.declared.Mark.{Mark}
 use Rattle.walk.specs.declared.Mark.the-variants.{Open, Above, AtMost}
 use Rattle.walk.proofs.Tests.{and-true, le?-sound, le?-complete, le?-fails}
 use Rattle.walk.proofs.Checks.{steppable}
-use Rattle.bucket_test.specs.Tests.{eq?, overTo, joinTo}
+use Rattle.bucket_test.specs.Tests.{overTo, joinTo}
 use Rattle.bucket_test.specs.Plan.{thresholdAt, spendingOf, planRefusal, Accepted}
 use Rattle.bucket_test.specs.Words.{partAt, wordsFit}
-use Rattle.bucket_test.specs.Turn.{recordAt, turnRecord, turnPart, MayTurn, recordSound}
-use Rattle.bucket_test.specs.Answers.{lowOf, highOf, anyWide, firstBucket, answerBy, answerOf, isEnding, goesOn}
+use Rattle.bucket_test.specs.Turn.{recordAt, MayTurn, recordSound, recordTurn, partTurn, soundAt, MayTurnAt}
+use Rattle.bucket_test.specs.Answers.{lowOf, highOf, answerOf, isEnding, goesOn}
 use Rattle.bucket_test.specs.Draw.{Outcome, drawnOf, outcomeOf, startState, startWords, noState, beginRefusal, begunBy, begun, stateSound, drawRefusal, nextState, nextWords, drawnBy, drawn, report, drawnOn}
 use Rattle.bucket_test.specs.declared.Threshold.{Threshold}
 use Rattle.bucket_test.specs.declared.State.{State}
 use Rattle.bucket_test.specs.declared.Plan.{Plan}
-use Rattle.bucket_test.specs.declared.Report.{Report}
 use Rattle.bucket_test.specs.declared.Drawn.{Drawn}
 use Rattle.bucket_test.specs.declared.Answer.the-variants.{Refused}
-use Rattle.bucket_test.proofs.PlaceLaws.{eq?-complete, eq?-fails, all-reads, none-reads}
+use Rattle.bucket_test.proofs.PlaceLaws.{eq?-fails, all-reads}
 use Rattle.bucket_test.proofs.Rules.{accepted, threshold-ok, spends}
-use Rattle.bucket_test.proofs.Invariant.{goes-on}
+use Rattle.bucket_test.proofs.AnsweringLaws.{not-over, thin-at}
 use Rattle.bucket_test.proofs.TurningLaws.{part-length}
 
 -- ---- a threshold that refusal 11 lets through and that is not wide may have its turn
@@ -53,12 +51,6 @@ module _ (p : Plan) (s : State) (ws : List ℕ) (good : planRefusal p ≡ 0) (fi
   ok : Accepted p
   ok = accepted p .0 good
 
-  not-over : (anyWide p s ≡ false) × (eq? (s .n) (p .horizon) ≡ false)
-  unfolding answerOf answerBy
-  not-over =
-      goes-on (lt? (highOf p s) (lowOf p s)) (lt? (firstBucket p (lowOf p s) (highOf p s)) (p .buckets)) (firstBucket p (lowOf p s) (highOf p s))
-      (anyWide p s) (eq? (s .n) (p .horizon)) open-yet
-
   -- the tests of refusal 11
   in-time : s .n ≤ p .horizon
   unfolding stateSound
@@ -68,35 +60,26 @@ module _ (p : Plan) (s : State) (ws : List ℕ) (good : planRefusal p ≡ 0) (fi
   unfolding stateSound
   ones-fit = le?-sound (s .ones) (s .n) (and-true (le? (s .ones) (s .n)) _ (and-true (le? (s .n) (p .horizon)) _ sound .1) .0)
 
-  pub sound-at : (i : ℕ) → i < p .count → recordSound (spendingOf p i (s .n)) (s .n) (s .ones) (recordAt s i .mark) (recordAt s i) (partAt i ws) ≡ true
+  pub sound-at : (i : ℕ) → i < p .count → soundAt p ws (s .n) (s .ones) i (recordAt s i) ≡ true
   unfolding stateSound
   sound-at = all-reads _ (p .count) .0 (and-true (le? (s .ones) (s .n)) _ (and-true (le? (s .n) (p .horizon)) _ sound .1) .1)
 
   pub early : s .n < horizonLimit
-  unfolding eq?
-  early = omega (arith, in-time, eqb-false (s .n) (p .horizon) (not-over .1), ok .horizon-range)
+  early = omega (arith, in-time, not-over p s open-yet .1, ok .horizon-range)
 
-  -- no open threshold is wide
-  pub thin-at : (i : ℕ) → i < p .count → (isOpen (recordAt s i .mark) && isWide (recordAt s i .walked)) ≡ false
-  unfolding anyWide
-  thin-at = none-reads (λ i. isOpen (recordAt s i .mark) && isWide (recordAt s i .walked)) (p .count) .0 (not-over .0)
-
-  pub all-may-turn : (i : ℕ) → i < p .count
-      → MayTurn (thresholdAt p i) (spendingOf p i (suc (s .n))) (recordAt s i .mark) (recordAt s i) (partAt i ws)
+  pub all-may-turn : (i : ℕ) → i < p .count → MayTurnAt p ws (suc (s .n)) i (recordAt s i)
   all-may-turn i l =
       may-turn-by (spendingOf p i) (s .n) (s .ones) (thresholdAt p i) (threshold-ok p ok i l) (spends p ok i l) (le-of-lt early)
-      (recordAt s i) (partAt i ws) (part-length ws (p .count) i fits l) (recordAt s i .mark) (sound-at i l) (thin-at i l)
+      (recordAt s i) (partAt i ws) (part-length ws (p .count) i fits l) (recordAt s i .mark) (sound-at i l) (thin-at p s (not-over p s open-yet .0) i l)
 
 -- the state and the words after the turns of all, of which n is the draw
 module _ (p : Plan) (s : State) (ws : List ℕ) (d n : ℕ) (n-is : n ≡ suc (s .n)) where
-  pub next-state : (rs : List Threshold)
-      → rs ≡ overTo (p .count) (λ i t. turnRecord (thresholdAt p i) (spendingOf p i n) n (s .ones + d) (t .mark) t (partAt i ws)) (s .records)
+  pub next-state : (rs : List Threshold) → rs ≡ overTo (p .count) (recordTurn p ws n (s .ones + d)) (s .records)
       → record { n = n; ones = s .ones + d; records = rs } ≡ nextState p s ws d
   unfolding nextState
   next-state rs e = rw (e, n-is)
 
-  pub next-words : (out : List ℕ)
-      → out ≡ joinTo (p .count) (λ i. turnPart (thresholdAt p i) (spendingOf p i n) n (s .ones + d) (recordAt s i .mark) (recordAt s i) (partAt i ws))
+  pub next-words : (out : List ℕ) → out ≡ joinTo (p .count) (λ i. partTurn p ws n (s .ones + d) i (recordAt s i))
       → out ≡ nextWords p s ws d
   unfolding nextWords
   next-words out e = rw (e, n-is)
@@ -112,10 +95,6 @@ pub hands : {o o′ : Outcome} → o ≡ o′ → {r : Drawn} {ws : List ℕ} �
 hands e p q = (p ∙ ap drawnOf (sym e), q ∙ ap (λ (o : Outcome). o .words) (sym e))
 
 module _ (p : Plan) (ws : List ℕ) where
-  pub words-fit : length ws ≡ wide * p .count → wordsFit p ws ≡ true
-  unfolding wordsFit
-  words-fit e = eq?-complete (length ws) (wide * p .count) e
-
   pub words-do-not : ¬ (length ws ≡ wide * p .count) → wordsFit p ws ≡ false
   unfolding wordsFit
   words-do-not e = eq?-fails (length ws) (wide * p .count) e

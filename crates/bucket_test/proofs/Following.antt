@@ -1,6 +1,6 @@
 -- One threshold of a carried test: its record and its part after the draws taken are what its walk and the string say, and one turn
 -- takes them one draw on. Cites laws of `walk` about boundaries and masses only. Assumes nothing.
-use mathlib.Core.Path.{_≡_, refl, sym, ap, _∙_}
+use mathlib.Core.Path.{_≡_, refl, ap, _∙_}
 use mathlib.Core.Bool.{Bool, true, false}
 use mathlib.Core.List.{List, _∷_}
 use Prim.Native.Nat.{ℕ, suc, _≤_}
@@ -14,12 +14,13 @@ use Rattle.walk.specs.Strings.{Draws, ones, Side, Upper, Lower, judged, orElse,
 use Rattle.walk.specs.Record.{recordOf, padded}
 use Rattle.walk.specs.declared.Mark.{Mark}
 use Rattle.walk.specs.declared.Mark.the-variants.{Open, Above, AtMost}
+use Rattle.walk.specs.declared.Walked.{Walked}
 use Rattle.walk.proofs.Tests.{le?-complete}
 use Rattle.walk.proofs.RowSteps.{rows-fit}
 use Rattle.walk.proofs.Agreement.{same, in-order, not-wide}
 use Rattle.walk.proofs.Meeting.{last-settled, mark-meets, mark-open}
 use Rattle.walk.proofs.Checks.{padded-length, row-back, walk-passes}
-use Rattle.walk.proofs.Seams.{rows-zero, rows-suc, markOf, verdictOf, mark-cons, verdict-row, verdict-record, open-inside, narrow-next}
+use Rattle.walk.proofs.Seams.{start-record, rows-zero, rows-suc, markOf, verdictOf, mark-cons, verdict-row, verdict-record, open-inside, narrow-next}
 use Rattle.bucket_test.specs.Words.{Stands}
 use Rattle.bucket_test.specs.Turn.{startRecord, marked, walkedOn, turnRecord, turnPart, recordSound}
 use Rattle.bucket_test.specs.Demand3.{Marks}
@@ -43,7 +44,10 @@ module _ (a : ℕ) (E : ℕ → ℕ) where
 
   pub start-for : (recordFor Open 0 ≡ startRecord) × (partFor Open 0 ≡ padded (startRow .masses))
   unfolding recordFor partFor startRecord
-  start-for = (ap (λ (r : Row). record { mark = Open; walked = recordOf r }) (rows-zero a E), ap (λ (r : Row). padded (r .masses)) (rows-zero a E))
+  start-for = (
+    ap (λ (w : Walked). record { mark = Open; walked = w }) (ap recordOf (rows-zero a E) ∙ start-record),
+    ap (λ (r : Row). padded (r .masses)) (rows-zero a E),
+  )
 
   module _ (threshold : a ≤ million) (spends : IsSpending E) where
     -- ---- one turn
@@ -100,8 +104,8 @@ module _ (a : ℕ) (E : ℕ → ℕ) where
       pub part-size : length (partFor (markOf a E s) (length s)) ≡ wide
       unfolding partFor
       part-size =
-          padded-length (rowAt (markOf a E s) (length s) .masses)
-          (rows-fit a threshold E spends (lastStep (markOf a E s) (length s)) (not-wide a threshold E spends (lastStep (markOf a E s) (length s)) .0 none))
+          let t = lastStep (markOf a E s) (length s) in
+          padded-length (rows a E t .masses) (rows-fit a threshold E spends t (not-wide a threshold E spends t .0 none))
 
       -- refusal 11 lets it through
       sound-by : (m : Mark) → markOf a E s ≡ m → NoWideBefore a E (lastStep m (length s))
@@ -117,7 +121,7 @@ module _ (a : ℕ) (E : ℕ → ℕ) where
           let h = mark-meets (firstAt a E) (upperAt a E) orders s Lower t .0 e in
           cc (le?-complete 1 t (h .from), le?-complete t (length s) (h .to))
 
-      pub record-sound : recordSound (E (length s)) (length s) (ones s) (markOf a E s) (recordFor (markOf a E s) (length s)) (partFor (markOf a E s) (length s)) ≡ true
+      pub record-sound : let m = markOf a E s in recordSound (E (length s)) (length s) (ones s) m (recordFor m (length s)) (partFor m (length s)) ≡ true
       record-sound = sound-by (markOf a E s) refl none
 
     -- ---- a record and its part are those of a step

@@ -10,14 +10,15 @@ use Rattle.walk.specs.Units.{million}
 use Rattle.bucket_test.specs.Tests.{eq?}
 use Rattle.bucket_test.specs.Plan.{thresholdAt, allowanceAt, leftAt, rightAt, spendingOf, rule1, aboveBefore, rule2, rule3, rule4, permitted, bucketFits, rule5, goesOnAt, rule6, planRefusal}
 use Rattle.bucket_test.specs.Words.{wordsFit}
-use Rattle.bucket_test.specs.Answers.{lowOf, highOf, anyWide, contains, firstBucket, answerBy, answerOf}
+use Rattle.bucket_test.specs.Answers.{lowOf, highOf, anyWide, answerOf}
 use Rattle.bucket_test.specs.Draw.{Outcome, startState, startWords, beginRefusal, begunBy, begun, stateSound, drawRefusal, nextState, nextWords, drawnBy, drawn, reportBy, report, drawnOn}
 use Rattle.bucket_test.specs.Ignored.{SameTest, IgnoredTheorem}
 use Rattle.bucket_test.specs.declared.Threshold.{Threshold}
 use Rattle.bucket_test.specs.declared.State.{State}
 use Rattle.bucket_test.specs.declared.Plan.{Plan}
-use Rattle.bucket_test.proofs.PlaceLaws.{all-cong, any-cong, largest-cong, smallest-cong, search-cong}
+use Rattle.bucket_test.proofs.PlaceLaws.{all-cong, any-cong, largest-cong, smallest-cong}
 use Rattle.bucket_test.proofs.PlaceLists.{over-cong, join-cong}
+use Rattle.bucket_test.proofs.AnsweringLaws.{answer-cong}
 
 and-cong : {a b x y : Bool} → a ≡ b → x ≡ y → (a && x) ≡ (b && y)
 and-cong e f = λ i. e i && f i
@@ -90,13 +91,9 @@ module _ (p : Plan) (thresholds allowances left right : List ℕ)
     unfolding highOf
     high-same = smallest-cong (p .count) _ _ _ (λ i l. rw (entries i l .0))
 
-    bucket-same : (low high : ℕ) → firstBucket q low high ≡ firstBucket p low high
-    unfolding firstBucket contains
-    bucket-same low high = search-cong (p .buckets) 0 _ _ (λ j l. rw (ends j (omega arith) .0, ends j (omega arith) .1))
-
     answer-same : answerOf q s ≡ answerOf p s
-    unfolding answerOf answerBy anyWide
-    answer-same = rw (low-same, high-same, bucket-same (lowOf p s) (highOf p s))
+    unfolding anyWide
+    answer-same = answer-cong p q refl refl ends s low-same high-same refl
 
     report-same : report q s ≡ report p s
     unfolding report

@@ -1,44 +1,35 @@
 -- State and words of a carried test are what the walks and the draws taken say; 8 and 11 never refuse them; one more draw. Assumes
 -- nothing.
-use mathlib.Core.Path.{_≡_, refl, sym, ap, _∙_}
-use mathlib.Core.Bool.{Bool, true, false, _&&_}
+use mathlib.Core.Path.{_≡_, sym, ap, _∙_}
+use mathlib.Core.Bool.{Bool, true, false}
 use mathlib.Core.List.{List, [], _∷_}
 use Prim.Native.Nat.{ℕ, suc, _+_, _≤_, _<_}
 use native.Mathlib.Omega.{arith}
-use borrow.Author.Tests.{eq-eqb, eqb-false}
 use lib.ListN.{length, replicate, length-replicate}
-use Rattle.walk.specs.Numbers.{le?, lt?}
+use Rattle.walk.specs.Numbers.{le?}
 use Rattle.walk.specs.Units.{wide}
 use Rattle.walk.specs.Walk.{NoWideBefore}
-use Rattle.walk.specs.Row.{Row, rows}
-use Rattle.walk.specs.Strings.{Draws, ones, isOpen, lastStep}
-use Rattle.walk.specs.Record.{isWide}
+use Rattle.walk.specs.Row.{rows}
+use Rattle.walk.specs.Strings.{Draws, ones, lastStep}
 use Rattle.walk.specs.declared.Mark.{Mark}
 use Rattle.walk.specs.declared.Mark.the-variants.{Open}
-use Rattle.walk.proofs.Tests.{test, Le?, le, gt, clash, le?-complete}
-use Rattle.walk.proofs.Checks.{wide-record}
+use Rattle.walk.proofs.Tests.{test, Le?, le, gt, le?-complete}
+use Rattle.walk.proofs.Checks.{narrow-record}
 use Rattle.walk.proofs.Seams.{markOf, mark-nil, mark-cons}
-use Rattle.bucket_test.specs.Tests.{eq?, overTo, joinTo}
+use Rattle.bucket_test.specs.Tests.{overTo, joinTo}
 use Rattle.bucket_test.specs.Plan.{thresholdAt, spendingOf, Accepted}
 use Rattle.bucket_test.specs.Words.{partAt, wordsFit}
-use Rattle.bucket_test.specs.Turn.{startRecord, noRecord, recordAt, turnRecord, turnPart, recordSound}
-use Rattle.bucket_test.specs.Answers.{lowOf, highOf, anyWide, firstBucket, firstThatFits, answerBy, answerOf, isEnding}
+use Rattle.bucket_test.specs.Turn.{startRecord, noRecord, recordAt, recordTurn, partTurn, soundAt}
+use Rattle.bucket_test.specs.Answers.{answerOf, isEnding}
 use Rattle.bucket_test.specs.Draw.{startState, startWords, stateSound, nextState, nextWords}
-use Rattle.bucket_test.proofs.PlaceLaws.{all-reads, none-reads}
-use Rattle.bucket_test.proofs.PlaceLists.{over-get, over-over, over-same, join-cong, join-length, join-part}
+use Rattle.bucket_test.proofs.PlaceLaws.{all-reads}
+use Rattle.bucket_test.proofs.PlaceLists.{over-get, over-over, over-same, words-say, join-cong, join-length, join-part}
 use Rattle.bucket_test.proofs.Rules.{threshold-ok, spends}
+use Rattle.bucket_test.proofs.AnsweringLaws.{not-over, thin-at}
 use Rattle.bucket_test.proofs.Following.{recordFor, partFor, mark-for, start-for, turn-record, turn-part, part-size, record-sound, narrow-on}
 use Rattle.bucket_test.specs.declared.Threshold.{Threshold}
 use Rattle.bucket_test.specs.declared.State.{State}
 use Rattle.bucket_test.specs.declared.Plan.{Plan}
-
--- an answer that does not end the test: nothing is wide, and the horizon is not reached
-pub goes-on : (c b : Bool) (j : ℕ) (w e : Bool) → isEnding (firstThatFits c b j w e) ≡ false → (w ≡ false) × (e ≡ false)
-goes-on true b j w e f = clash f
-goes-on false true j w e f = clash f
-goes-on false false j true e f = clash f
-goes-on false false j false true f = clash f
-goes-on false false j false false f = (refl, refl)
 
 ones-le : (s : Draws) → ones s ≤ length s
 ones-le [] = omega arith
@@ -79,7 +70,9 @@ module _ (p : Plan) where
 
     pub start-words : startWords p ≡ wordsFor []
     unfolding startWords wordsFor partAfter
-    start-words = join-cong (p .count) _ _ (λ i l. rw (mark-nil (thresholdAt p i) (spendingOf p i)) (sym (start-for (thresholdAt p i) (spendingOf p i) .1)))
+    start-words =
+        join-cong (p .count) _ _
+        (λ i l. rw (mark-nil (thresholdAt p i) (spendingOf p i)) (sym (start-for (thresholdAt p i) (spendingOf p i) .1)))
 
     module _ (s : Draws) (h : History s) where
       pub size-at : (i : ℕ) → i < p .count → length (partAfter s i) ≡ wide
@@ -88,7 +81,9 @@ module _ (p : Plan) where
 
       pub record-at : (i : ℕ) → i < p .count → recordAt (stateFor s) i ≡ recordAfter s i
       unfolding stateFor
-      record-at i l = over-get (p .count) (λ i t. recordAfter s i) (replicate 10 startRecord) i noRecord l (omega (arith, ok .count-range, length-replicate 10 startRecord))
+      record-at i l =
+          over-get (p .count) (λ i t. recordAfter s i) (replicate 10 startRecord) i noRecord l
+          (omega (arith, ok .count-range, length-replicate 10 startRecord))
 
       pub mark-at : (i : ℕ) → i < p .count → recordAt (stateFor s) i .mark ≡ markAt i s
       unfolding recordAfter
@@ -101,11 +96,10 @@ module _ (p : Plan) where
       -- ---- 8 and 11 do not refuse
 
       pub words-fit : wordsFit p (wordsFor s) ≡ true
-      unfolding wordsFit wordsFor eq?
-      words-fit = eq-eqb _ _ (join-length (partAfter s) (p .count) size-at)
+      unfolding wordsFor
+      words-fit = words-say p _ .1 (join-length (partAfter s) wide (p .count) size-at)
 
-      sound-at : (i : ℕ) → i < p .count
-          → recordSound (spendingOf p i (length s)) (length s) (ones s) (recordAt (stateFor s) i .mark) (recordAt (stateFor s) i) (partAt i (wordsFor s)) ≡ true
+      sound-at : (i : ℕ) → i < p .count → soundAt p (wordsFor s) (length s) (ones s) i (recordAt (stateFor s) i) ≡ true
       unfolding recordAfter partAfter
       sound-at i l =
           rw (mark-at i l, record-at i l, part-at i l)
@@ -113,7 +107,12 @@ module _ (p : Plan) where
 
       pub state-sound : stateSound p (stateFor s) (wordsFor s) ≡ true
       unfolding stateSound stateFor
-      state-sound = cc (le?-complete (length s) (p .horizon) (h .in-time), le?-complete (ones s) (length s) (ones-le s), all-reads _ (p .count) .1 sound-at)
+      state-sound =
+          cc (
+            le?-complete (length s) (p .horizon) (h .in-time),
+            le?-complete (ones s) (length s) (ones-le s),
+            all-reads _ (p .count) .1 sound-at,
+          )
 
       -- ---- one more draw, 0 or 1
 
@@ -129,27 +128,22 @@ module _ (p : Plan) where
             go (gt k) = omega arith
 
         module _ (i : ℕ) (l : i < p .count) where
-          record-next : turnRecord (thresholdAt p i) (spendingOf p i (suc (length s))) (suc (length s)) (ones s + d) (recordAfter s i .mark) (recordAfter s i) (partAt i (wordsFor s))
-              ≡ recordAfter (b ∷ s) i
+          record-next : recordTurn p (wordsFor s) (suc (length s)) (ones s + d) i (recordAfter s i) ≡ recordAfter (b ∷ s) i
           unfolding recordAfter partAfter recordFor
           record-next =
               rw (part-at i l, mark-cons (thresholdAt p i) (spendingOf p i) b s, ones-next)
               (turn-record (thresholdAt p i) (spendingOf p i) (threshold-ok p ok i l) (spends p ok i l) (length s) (ones s + d) (markAt i s))
 
-          part-next : turnPart (thresholdAt p i) (spendingOf p i (suc (length s))) (suc (length s)) (ones s + d) (recordAt (stateFor s) i .mark) (recordAt (stateFor s) i) (partAt i (wordsFor s))
-              ≡ partAfter (b ∷ s) i
+          part-next : partTurn p (wordsFor s) (suc (length s)) (ones s + d) i (recordAt (stateFor s) i) ≡ partAfter (b ∷ s) i
           unfolding recordAfter partAfter
           part-next =
               rw (mark-at i l, record-at i l, part-at i l, mark-cons (thresholdAt p i) (spendingOf p i) b s, ones-next)
               (turn-part (thresholdAt p i) (spendingOf p i) (threshold-ok p ok i l) (spends p ok i l) (length s) (ones s + d) (markAt i s))
 
-        records-next : overTo (p .count) (λ i t. turnRecord (thresholdAt p i) (spendingOf p i (suc (length s))) (suc (length s)) (ones s + d) (t .mark) t (partAt i (wordsFor s)))
+        records-next : overTo (p .count) (recordTurn p (wordsFor s) (suc (length s)) (ones s + d))
             (overTo (p .count) (λ i t. recordAfter s i) (replicate 10 startRecord))
             ≡ overTo (p .count) (λ i t. recordAfter (b ∷ s) i) (replicate 10 startRecord)
-        records-next =
-            over-over (p .count)
-            (λ i t. turnRecord (thresholdAt p i) (spendingOf p i (suc (length s))) (suc (length s)) (ones s + d) (t .mark) t (partAt i (wordsFor s)))
-            (λ i t. recordAfter s i) (λ i t. recordAfter (b ∷ s) i) (replicate 10 startRecord) (λ i l x. record-next i l)
+        records-next = over-over (p .count) _ (λ i t. recordAfter s i) _ (replicate 10 startRecord) (λ i l x. record-next i l)
 
         pub next-state : nextState p (stateFor s) (wordsFor s) d ≡ stateFor (b ∷ s)
         unfolding nextState stateFor
@@ -162,24 +156,15 @@ module _ (p : Plan) where
         -- ---- the history goes on, where the test has not ended
 
         module _ (open-yet : isEnding (answerOf p (stateFor s)) ≡ false) where
-          not-over : (anyWide p (stateFor s) ≡ false) × (eq? (length s) (p .horizon) ≡ false)
-          unfolding answerOf answerBy stateFor
-          not-over =
-              goes-on (lt? (highOf p (stateFor s)) (lowOf p (stateFor s)))
-              (lt? (firstBucket p (lowOf p (stateFor s)) (highOf p (stateFor s))) (p .buckets))
-              (firstBucket p (lowOf p (stateFor s)) (highOf p (stateFor s)))
-              (anyWide p (stateFor s)) (eq? (length s) (p .horizon)) open-yet
-
           thin : (i : ℕ) → i < p .count → markAt i s ≡ Open → ¬ (length (rows (thresholdAt p i) (spendingOf p i) (length s) .masses) ≡ wide)
-          unfolding anyWide recordAfter recordFor wide
-          thin i l e h =
-              let w : (isOpen (recordAt (stateFor s) i .mark) && isWide (recordAt (stateFor s) i .walked)) ≡ false = none-reads (λ i. isOpen (recordAt (stateFor s) i .mark) && isWide (recordAt (stateFor s) i .walked)) (p .count) .0 (not-over .0) i l in
-              let r : Row = rows (thresholdAt p i) (spendingOf p i) (length s) in
-              eqb-false (suc (length (r .masses))) 770 (sym (wide-record r) ∙ (rw (mark-at i l, record-at i l, e) at w)) (omega arith)
+          unfolding recordAfter recordFor
+          thin i l e =
+              narrow-record (rows (thresholdAt p i) (spendingOf p i) (length s)) .0
+              (rw (mark-at i l, record-at i l, e) at (thin-at p (stateFor s) (not-over p (stateFor s) open-yet .0) i l))
 
           pub history-next : History (b ∷ s)
-          unfolding eq?
+          unfolding stateFor
           history-next = record {
-            in-time = omega (arith, h .in-time, eqb-false (length s) (p .horizon) (not-over .1));
+            in-time = omega (arith, h .in-time, not-over p (stateFor s) open-yet .1);
             narrow = λ i l. narrow-on (thresholdAt p i) (spendingOf p i) (threshold-ok p ok i l) (spends p ok i l) s b (h .narrow i l) (thin i l);
           }

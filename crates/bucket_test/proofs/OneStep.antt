@@ -1,5 +1,5 @@
 -- A draw that nothing refuses is one step by 01's rules, whatever state was handed in (specs/OneStep). Assumes nothing.
-use mathlib.Core.Path.{_≡_, refl, sym, _∙_}
+use mathlib.Core.Path.{_≡_, refl, _∙_}
 use mathlib.Core.Bool.{Bool, true, false, not}
 use mathlib.Core.List.{List, [], _∷_}
 use mathlib.Core.Logic.{⊎-elim}
@@ -30,11 +30,12 @@ use Rattle.bucket_test.specs.OneStep.{MarkedAt, steppedAt, OneStep, OneS
 use Rattle.bucket_test.specs.declared.Threshold.{Threshold}
 use Rattle.bucket_test.specs.declared.State.{State}
 use Rattle.bucket_test.specs.declared.Plan.{Plan}
-use Rattle.bucket_test.proofs.PlaceLaws.{le-or-lt, eq?-sound}
-use Rattle.bucket_test.proofs.PlaceLists.{over-length, over-get, over-drop, join-length, join-part}
+use Rattle.bucket_test.proofs.PlaceLaws.{le-or-lt}
+use Rattle.bucket_test.proofs.PlaceLists.{over-length, over-get, over-drop, words-say, join-length, join-part}
 use Rattle.bucket_test.proofs.Rules.{accepted, threshold-ok, spends}
 use Rattle.bucket_test.proofs.TurningLaws.{part-length, stands}
-use Rattle.bucket_test.proofs.DrawingLaws.{sound-at, thin-at, drawn-by}
+use Rattle.bucket_test.proofs.DrawingLaws.{sound-at, drawn-by}
+use Rattle.bucket_test.proofs.AnsweringLaws.{not-over, thin-at}
 
 -- ---- an open threshold that refusal 11 lets through and that is not wide
 
@@ -70,9 +71,9 @@ module _ (a : ℕ) (threshold : a ≤ million) (E : ℕ → ℕ) (spends : IsSpe
 -- what was judged
 drawn-says : (p : Plan) (s : State) (ws : List ℕ) (d : ℕ) → drawRefusal p s ws d ≡ 0
     → (planRefusal p ≡ 0) × (length ws ≡ wide * p .count) × (isEnding (answerOf p s) ≡ false) × (stateSound p s ws ≡ true)
-unfolding drawRefusal wordsFit
+unfolding drawRefusal
 drawn-says p s ws d e =
-    go (planRefusal p) (wordsFit p ws) (le? d 1) (isEnding (answerOf p s)) (stateSound p s ws) e (eq?-sound (length ws) (wide * p .count))
+    go (planRefusal p) (wordsFit p ws) (le? d 1) (isEnding (answerOf p s)) (stateSound p s ws) e (words-say p ws .0)
   where
     go : {A : Type 0} (r : ℕ) (w b o t : Bool) → firstRefusal (r ∷ unless w 8 ∷ unless b 9 ∷ unless (not o) 10 ∷ unless t 11 ∷ []) ≡ 0
         → (w ≡ true → A) → (r ≡ 0) × A × (o ≡ false) × (t ≡ true)
@@ -84,7 +85,7 @@ drawn-says p s ws d e =
     go (suc r) w b o t e f = absurd (omega arith)
 
 module _ (p : Plan) (s : State) (ws : List ℕ) (d : ℕ) where
-  -- the turn of the threshold at place i
+  -- the turn of the threshold at place i, by its mark
   abbrev recordTurned : ℕ → Mark → Threshold
   recordTurned i m = turnRecord (thresholdAt p i) (spendingOf p i (suc (s .n))) (suc (s .n)) (s .ones + d) m (recordAt s i) (partAt i ws)
 
@@ -123,7 +124,7 @@ module _ (p : Plan) (s : State) (ws : List ℕ) (d : ℕ) where
       open-walks is =
           next-walks (thresholdAt p i) (threshold-ok p ok i l) (spendingOf p i) (spends p ok i l) (s .n) (s .ones)
           (recordAt s i .walked) (partAt i ws) size
-          (rw is at (sound-at p s ws good fits open-yet sound i l)) (rw is at (thin-at p s ws good fits open-yet sound i l)) (s .ones + d)
+          (rw is at (sound-at p s ws good fits open-yet sound i l)) (rw is at (thin-at p s (not-over p s open-yet .0) i l)) (s .ones + d)
 
       -- a settled one stays
       stays : (m : Mark) → ¬ (m ≡ Open) → (recordTurned i m ≡ recordAt s i) × (partTurned i m ≡ partAt i ws)
@@ -152,7 +153,7 @@ module _ (p : Plan) (s : State) (ws : List ℕ) (d : ℕ) where
       settled-stays = λ i l n. rw (record-next i l, part-next i l) (stays i l (recordAt s i .mark) n);
       past-stays = over-drop (p .count) _ (s .records);
       records-size = over-length (p .count) _ (s .records);
-      words-size = join-length (λ i. partTurned i (recordAt s i .mark)) (p .count) size-next;
+      words-size = join-length (λ i. partTurned i (recordAt s i .mark)) wide (p .count) size-next;
       answer-is = refl;
     }
 

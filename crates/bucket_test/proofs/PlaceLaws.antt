@@ -7,8 +7,8 @@ use Prim.Native.Nat.{ℕ, zero, suc, _+_, _≤_, _<_}
 use native.Mathlib.Nat.{eq-or-lt-of-le}
 use native.Mathlib.Numerals.{add-one}
 use native.Mathlib.Omega.{arith}
-use borrow.Author.Tests.{eqb-true, eq-eqb, ne-eqb, not-true, not-false}
-use Rattle.walk.specs.Numbers.{le?, searchUp}
+use borrow.Author.Tests.{eqb-true, eqb-false, eq-eqb, ne-eqb, not-true, not-false}
+use Rattle.walk.specs.Numbers.{le?}
 use Rattle.walk.proofs.Tests.{Le?, le, gt, test, clash, and-true, le?-sound, le?-complete, le?-fails}
 use Rattle.bucket_test.specs.Tests.{eq?, within, allTo, anyTo, largestTo, smallestTo, unless, firstRefusal}
 
@@ -71,6 +71,10 @@ eq?-complete = eq-eqb
 pub eq?-fails : (m n : ℕ) → ¬ (m ≡ n) → eq? m n ≡ false
 unfolding eq?
 eq?-fails = ne-eqb
+
+pub eq?-false : (m n : ℕ) → eq? m n ≡ false → ¬ (m ≡ n)
+unfolding eq?
+eq?-false = eqb-false
 
 pub eq-reads : (m n : ℕ) → (eq? m n ≡ true) ↔ (m ≡ n)
 eq-reads m n = (eq?-sound m n, eq?-complete m n)
@@ -191,12 +195,6 @@ unfolding smallestTo
 smallest-cong zero f g most e = refl
 smallest-cong (suc n) f g most e = rw (smallest-cong n f g most (λ i l. e i (omega arith)), e n (omega arith))
 
--- a search from place j on
-pub search-cong : (n j : ℕ) (f g : ℕ → Bool) → ((i : ℕ) → i < j + n → f i ≡ g i) → searchUp n j f ≡ searchUp n j g
-unfolding searchUp
-search-cong zero j f g e = refl
-search-cong (suc n) j f g e = rw (search-cong n (suc j) f g (λ i l. e i (omega arith)), e j (omega arith))
-
 -- ---- refusals in order
 
 -- there is none: the first rule is kept, and there is none of the others
@@ -204,7 +202,3 @@ pub none-says : {A B : Type 0} (b : Bool) (r : ℕ) (rs : List ℕ) → (b ≡ t
     → (firstRefusal (unless b (suc r) ∷ rs) ≡ 0) ↔ (A × B)
 none-says true r rs x y = (λ e. (x .0 refl, y .0 e), λ h. y .1 (h .1))
 none-says false r rs x y = (λ e. absurd (omega arith), λ h. clash (sym (x .1 (h .0))))
-
-pub first-le : (b : Bool) (r : ℕ) (rs : List ℕ) (most : ℕ) → suc r ≤ most → firstRefusal rs ≤ most → firstRefusal (unless b (suc r) ∷ rs) ≤ most
-first-le true r rs most h k = k
-first-le false r rs most h k = h

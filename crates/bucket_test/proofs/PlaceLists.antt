@@ -1,6 +1,7 @@
 -- Laws of lists made place by place (specs/Tests, specs/Words). Assumes nothing.
 use mathlib.Core.Path.{_≡_, refl, sym, ap}
-use mathlib.Core.Logic.{_⊎_, inl, inr}
+use mathlib.Core.Bool.{true}
+use mathlib.Core.Logic.{_↔_, _⊎_, inl, inr}
 use mathlib.Core.List.{List, [], _∷_, _++_, append-assoc, append-nil}
 use Prim.Native.Nat.{ℕ, zero, suc, _*_, _<_}
 use native.Mathlib.Nat.{eq-or-lt-of-le, mul-zero, mul-suc}
@@ -9,7 +10,9 @@ use lib.ListN.{length, drop, set, getD, replicate, length-append}
 use lib.Seq.{take-at, drop-at}
 use Rattle.walk.specs.Units.{wide}
 use Rattle.bucket_test.specs.Tests.{overTo, joinTo}
-use Rattle.bucket_test.specs.Words.{partAt}
+use Rattle.bucket_test.specs.Words.{partAt, wordsFit}
+use Rattle.bucket_test.specs.declared.Plan.{Plan}
+use Rattle.bucket_test.proofs.PlaceLaws.{eq-reads}
 
 module _ {A : Type 0} where
   pub over-length : (k : ℕ) (f : ℕ → A → A) (xs : List A) → length (overTo k f xs) ≡ length xs
@@ -70,17 +73,22 @@ module _ {A : Type 0} where
 
 -- ---- parts of words
 
+-- refusal 8
+pub words-say : (p : Plan) (ws : List ℕ) → (wordsFit p ws ≡ true) ↔ (length ws ≡ wide * p .count)
+unfolding wordsFit
+words-say p ws = eq-reads (length ws) (wide * p .count)
+
 pub join-cong : (n : ℕ) (f g : ℕ → List ℕ) → ((i : ℕ) → i < n → f i ≡ g i) → joinTo n f ≡ joinTo n g
 unfolding joinTo
 join-cong zero f g e = refl
 join-cong (suc n) f g e = rw (join-cong n f g (λ i l. e i (omega arith)), e n (omega arith))
 
 module _ (g : ℕ → List ℕ) where
-  pub join-length : (n : ℕ) → ((i : ℕ) → i < n → length (g i) ≡ wide) → length (joinTo n g) ≡ wide * n
+  pub join-length : (size n : ℕ) → ((i : ℕ) → i < n → length (g i) ≡ size) → length (joinTo n g) ≡ size * n
   unfolding joinTo
-  join-length zero e = sym (mul-zero wide)
-  join-length (suc n) e =
-      omega (arith, length-append (joinTo n g) (g n), join-length n (λ i l. e i (omega arith)), e n (omega arith), mul-suc wide n)
+  join-length size zero e = sym (mul-zero size)
+  join-length size (suc n) e =
+      omega (arith, length-append (joinTo n g) (g n), join-length size n (λ i l. e i (omega arith)), e n (omega arith), mul-suc size n)
 
   -- part i, with more behind
   pub join-part-more : (n : ℕ) → ((i : ℕ) → i < n → length (g i) ≡ wide) → (r : List ℕ) (i : ℕ) → i < n → partAt i (joinTo n g ++ r) ≡ g i
@@ -91,7 +99,7 @@ module _ (g : ℕ → List ℕ) where
       go : (i < n → partAt i (joinTo n g ++ (g n ++ r)) ≡ g i) → (suc i ≡ suc n) ⊎ (suc i < suc n) → partAt i (joinTo n g ++ (g n ++ r)) ≡ g i
       go rest (inl q) =
           let f : i ≡ n = omega arith in
-          rw (f, drop-at (joinTo n g) (g n ++ r) (wide * n) (join-length n (λ j k. e j (omega arith))))
+          rw (f, drop-at (joinTo n g) (g n ++ r) (wide * n) (join-length wide n (λ j k. e j (omega arith))))
           (take-at (g n) r wide (e n (omega arith)))
       go rest (inr h) = rest (omega arith)
 

@@ -2,27 +2,27 @@
 use mathlib.Core.Path.{_≡_, refl}
 use mathlib.Core.Bool.{true}
 use mathlib.Core.List.{List, [], _∷_}
-use mathlib.Core.Logic.{_↔_}
+use mathlib.Core.Logic.{_↔_, inl, inr}
 use Prim.Native.Nat.{ℕ, zero, suc, _≤_, _<_}
 use native.Mathlib.Omega.{arith}
 use Rattle.walk.specs.Units.{million, allowanceLimit, horizonLimit}
 use Rattle.walk.specs.Spending.{IsSpending}
 use Rattle.walk.proofs.SpendingLaws.{spending-is}
 use Rattle.bucket_test.specs.Tests.{unless, firstRefusal}
-use Rattle.bucket_test.specs.Plan.{thresholdAt, allowanceAt, leftAt, rightAt, spendingOf, rule1, aboveBefore, rule2, rule3, rule4, permitted, bucketFits, rule5, rule6, planRefusal, Permitted, Covered, Accepted}
+use Rattle.bucket_test.specs.Plan.{countLimit, bucketLimit, thresholdLimit, delayLimit, thresholdAt, allowanceAt, leftAt, rightAt, spendingOf, rule1, aboveBefore, rule2, rule3, rule4, permitted, bucketFits, rule5, rule6, planRefusal, Permitted, Covered, Accepted}
 use Rattle.bucket_test.specs.declared.Plan.{Plan}
-use Rattle.bucket_test.proofs.PlaceLaws.{both, either, neither, le-reads, eq-reads, within-reads, all-say, any-say, none-says, first-le}
+use Rattle.bucket_test.proofs.PlaceLaws.{both, either, neither, le-reads, eq-reads, within-reads, all-say, any-say, none-says}
 use Rattle.bucket_test.proofs.Cover.{covers}
 
 module _ (p : Plan) where
   -- ---- each rule in words
 
   abbrev pub Counted : Type 0
-  Counted = ((1 ≤ p .count) × (p .count ≤ 10)) × ((2 ≤ p .buckets) × (p .buckets ≤ 16))
+  Counted = ((1 ≤ p .count) × (p .count ≤ countLimit)) × ((2 ≤ p .buckets) × (p .buckets ≤ bucketLimit))
 
   pub rule1-says : (rule1 p ≡ true) ↔ Counted
   unfolding rule1
-  rule1-says = both (within-reads 1 10 (p .count)) (within-reads 2 16 (p .buckets))
+  rule1-says = both (within-reads 1 countLimit (p .count)) (within-reads 2 bucketLimit (p .buckets))
 
   abbrev Above : ℕ → Type 0
   Above zero = Unit
@@ -34,11 +34,11 @@ module _ (p : Plan) where
   above-says (suc i) = le-reads (suc (thresholdAt p i)) (thresholdAt p (suc i))
 
   abbrev pub Rising : Type 0
-  Rising = (i : ℕ) → i < p .count → ((1 ≤ thresholdAt p i) × (thresholdAt p i ≤ 999999)) × Above i
+  Rising = (i : ℕ) → i < p .count → ((1 ≤ thresholdAt p i) × (thresholdAt p i ≤ thresholdLimit)) × Above i
 
   pub rule2-says : (rule2 p ≡ true) ↔ Rising
   unfolding rule2
-  rule2-says = all-say _ (λ i. both (within-reads 1 999999 (thresholdAt p i)) (above-says i)) (p .count)
+  rule2-says = all-say _ (λ i. both (within-reads 1 thresholdLimit (thresholdAt p i)) (above-says i)) (p .count)
 
   abbrev pub Allowed : Type 0
   Allowed = (i : ℕ) → i < p .count → (1 ≤ allowanceAt p i) × (allowanceAt p i ≤ allowanceLimit)
@@ -48,11 +48,11 @@ module _ (p : Plan) where
   rule3-says = all-say _ (λ i. within-reads 1 allowanceLimit (allowanceAt p i)) (p .count)
 
   abbrev pub Timed : Type 0
-  Timed = ((1 ≤ p .delay) × (p .delay ≤ 65535)) × ((1 ≤ p .horizon) × (p .horizon ≤ horizonLimit))
+  Timed = ((1 ≤ p .delay) × (p .delay ≤ delayLimit)) × ((1 ≤ p .horizon) × (p .horizon ≤ horizonLimit))
 
   pub rule4-says : (rule4 p ≡ true) ↔ Timed
   unfolding rule4
-  rule4-says = both (within-reads 1 65535 (p .delay)) (within-reads 1 horizonLimit (p .horizon))
+  rule4-says = both (within-reads 1 delayLimit (p .delay)) (within-reads 1 horizonLimit (p .horizon))
 
   pub permitted-says : (e : ℕ) → (permitted p e ≡ true) ↔ Permitted p e
   unfolding permitted
@@ -133,15 +133,12 @@ module _ (p : Plan) where
   pub accepted : (planRefusal p ≡ 0) ↔ Accepted p
   accepted = (λ e. gives (kept .0 e), λ a. kept .1 (keeps a))
 
-  pub refusal-le : planRefusal p ≤ 6
-  unfolding planRefusal
-  refusal-le =
-      first-le (rule1 p) 0 from2 6 (omega arith)
-      (first-le (rule2 p) 1 from3 6 (omega arith)
-      (first-le (rule3 p) 2 from4 6 (omega arith)
-      (first-le (rule4 p) 3 from5 6 (omega arith)
-      (first-le (rule5 p) 4 from6 6 (omega arith)
-      (first-le (rule6 p) 5 [] 6 (omega arith) (omega arith))))))
+  -- an end of an accepted plan is at most a million
+  pub permitted-le : Accepted p → (e : ℕ) → Permitted p e → e ≤ million
+  unfolding million
+  permitted-le ok e (inl z) = omega arith
+  permitted-le ok e (inr (inl z)) = omega arith
+  permitted-le ok e (inr (inr z)) = omega (arith, z .2, ok .threshold-range (z .0) (z .1))
 
   -- ---- what an accepted plan gives the walk of the threshold at place i
 

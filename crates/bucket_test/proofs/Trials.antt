@@ -5,8 +5,6 @@ use Rattle.walk.specs.Units.{M, million, massLimit, allowanceLimit, horizonLimi
 use Rattle.walk.specs.Spending.{spending}
 use Rattle.walk.specs.Mass.{rounds, roundUp, reaching, massUp}
 use Rattle.walk.specs.Walk.{below, lower, massFrom, massBelow, upperBoundary, firstLive, start, absorbed, stepWalk, walk}
-use Rattle.walk.specs.Row.{startRow}
-use Rattle.walk.specs.Record.{recordOf}
 use Rattle.bucket_test.specs.Tests.{eq?, allTo, anyTo, largestTo, smallestTo}
 use Rattle.bucket_test.specs.Plan.{spendingOf, rule1, aboveBefore, rule2, rule3, rule4, permitted, bucketFits, rule5, goesOnAt, rule6, planRefusal}
 use Rattle.bucket_test.specs.Turn.{startRecord}
@@ -14,5 +12,7 @@ use Rattle.bucket_test.specs.Answers.{lowOf, highOf, answerBy, answerOf}
 use Rattle.bucket_test.specs.Trials.{planF, computed, printed}
 
 pub trials : (computed ≡ printed) × (planRefusal planF ≡ 0)
-unfolding computed printed planF spendingOf spending walk start stepWalk absorbed upperBoundary firstLive massFrom massBelow searchUp searchDown lower below massUp reaching roundUp rounds million M massLimit allowanceLimit horizonLimit le? eq? allTo anyTo largestTo smallestTo rule1 aboveBefore rule2 rule3 rule4 permitted bucketFits rule5 goesOnAt rule6 planRefusal lowOf highOf answerBy answerOf startRecord startRow recordOf
+unfolding computed printed planF spendingOf spending walk start stepWalk absorbed upperBoundary firstLive massFrom massBelow searchUp searchDown
+    lower below massUp reaching roundUp rounds million M massLimit allowanceLimit horizonLimit le? eq? allTo anyTo largestTo smallestTo
+    rule1 aboveBefore rule2 rule3 rule4 permitted bucketFits rule5 goesOnAt rule6 planRefusal lowOf highOf answerBy answerOf startRecord
 trials = (refl, refl)

@@ -5,11 +5,10 @@ use mathlib.Core.List.{List, [], _∷_}
 use Prim.Native.Nat.{ℕ, suc}
 use Rattle.walk.specs.Numbers.{le?, lt?, only, choose, searchUp}
 use Rattle.walk.specs.Units.{million}
-use Rattle.walk.specs.Strings.{Upper, Lower, isOn, isOpen}
-use Rattle.walk.specs.Record.{isWide}
+use Rattle.walk.specs.Strings.{Upper, Lower, isOn}
 use Rattle.bucket_test.specs.Tests.{eq?, anyTo, largestTo, smallestTo}
 use Rattle.bucket_test.specs.Plan.{thresholdAt, leftAt, rightAt}
-use Rattle.bucket_test.specs.Turn.{recordAt}
+use Rattle.bucket_test.specs.Turn.{recordAt, wideOpen}
 use Rattle.bucket_test.specs.declared.State.{State}
 use Rattle.bucket_test.specs.declared.Plan.{Plan}
 use Rattle.bucket_test.specs.declared.Report.{Report}
@@ -26,7 +25,7 @@ module _ (p : Plan) (s : State) where
 
   -- an open threshold is wide
   unfoldable pub anyWide : Bool
-  anyWide = anyTo (p .count) (λ i. isOpen (recordAt s i .mark) && isWide (recordAt s i .walked))
+  anyWide = anyTo (p .count) (λ i. wideOpen (recordAt s i))
 
 -- the bucket at place j contains the interval from low to high
 unfoldable pub contains : Plan → ℕ → ℕ → ℕ → Bool

@@ -7,10 +7,11 @@ use Rattle.walk.specs.Numbers.{le?}
 use Rattle.walk.specs.Row.{startRow}
 use Rattle.walk.specs.Record.{padded}
 use Rattle.bucket_test.specs.Tests.{allTo, unless, firstRefusal, overTo, joinTo}
-use Rattle.bucket_test.specs.Plan.{thresholdAt, spendingOf, planRefusal}
-use Rattle.bucket_test.specs.Words.{partAt, wordsFit}
-use Rattle.bucket_test.specs.Turn.{startRecord, noRecord, recordAt, turnRecord, turnPart, recordSound}
+use Rattle.bucket_test.specs.Plan.{planRefusal}
+use Rattle.bucket_test.specs.Words.{wordsFit}
+use Rattle.bucket_test.specs.Turn.{startRecord, noRecord, recordAt, recordTurn, partTurn, soundAt}
 use Rattle.bucket_test.specs.Answers.{lowOf, highOf, answerOf, isEnding, goesOn}
+use Rattle.bucket_test.specs.declared.Threshold.{Threshold}
 use Rattle.bucket_test.specs.declared.State.{State}
 use Rattle.bucket_test.specs.declared.Plan.{Plan}
 use Rattle.bucket_test.specs.declared.Drawn.{Drawn}
@@ -32,16 +33,20 @@ outcomeOf d words = record { answer = d .answer; state = d .state; words = words
 
 -- ---- a beginning: plan, 8
 
+-- before any draw, ten of one record
+abbrev pub tenOf : Threshold → State
+tenOf t = record { n = 0; ones = 0; records = replicate 10 t }
+
 -- ten open records with step 0's boundaries, and each part the words of step 0
 unfoldable pub startState : State
-startState = record { n = 0; ones = 0; records = replicate 10 startRecord }
+startState = tenOf startRecord
 
 unfoldable pub startWords : Plan → List ℕ
 startWords p = joinTo (p .count) (λ i. padded (startRow .masses))
 
 -- no state: zeros in every number, and open marks
 unfoldable pub noState : State
-noState = record { n = 0; ones = 0; records = replicate 10 noRecord }
+noState = tenOf noRecord
 
 unfoldable pub beginRefusal : Plan → List ℕ → ℕ
 beginRefusal p words = firstRefusal (planRefusal p ∷ unless (wordsFit p words) 8 ∷ [])
@@ -55,12 +60,12 @@ begun p words = begunBy (beginRefusal p words) p words
 
 -- ---- a draw: plan, 8, 9, 10, 11
 
--- refusal 11, judged on the first K records only
+-- refusal 11 (01: spoiled state), judged on the first K records only
 unfoldable pub stateSound : Plan → State → List ℕ → Bool
 stateSound p s words =
     le? (s .n) (p .horizon)
     && (le? (s .ones) (s .n)
-    && allTo (p .count) (λ i. recordSound (spendingOf p i (s .n)) (s .n) (s .ones) (recordAt s i .mark) (recordAt s i) (partAt i words)))
+    && allTo (p .count) (λ i. soundAt p words (s .n) (s .ones) i (recordAt s i)))
 
 unfoldable pub drawRefusal : Plan → State → List ℕ → ℕ → ℕ
 drawRefusal p s words d =
@@ -78,12 +83,11 @@ unfoldable pub nextState : Plan → State → List ℕ → ℕ → State
 nextState p s words d = record {
   n = suc (s .n);
   ones = s .ones + d;
-  records = overTo (p .count) (λ i t. turnRecord (thresholdAt p i) (spendingOf p i (suc (s .n))) (suc (s .n)) (s .ones + d) (t .mark) t (partAt i words)) (s .records);
+  records = overTo (p .count) (recordTurn p words (suc (s .n)) (s .ones + d)) (s .records);
 }
 
 unfoldable pub nextWords : Plan → State → List ℕ → ℕ → List ℕ
-nextWords p s words d =
-    joinTo (p .count) (λ i. turnPart (thresholdAt p i) (spendingOf p i (suc (s .n))) (suc (s .n)) (s .ones + d) (recordAt s i .mark) (recordAt s i) (partAt i words))
+nextWords p s words d = joinTo (p .count) (λ i. partTurn p words (suc (s .n)) (s .ones + d) i (recordAt s i))
 
 abbrev pub drawnBy : ℕ → Plan → State → List ℕ → ℕ → Outcome
 drawnBy zero p s words d = record { answer = answerOf p (nextState p s words d); state = nextState p s words d; words = nextWords p s words d }

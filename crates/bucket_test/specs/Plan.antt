@@ -11,6 +11,20 @@ use Rattle.walk.specs.Spending.{spending}
 use Rattle.bucket_test.specs.Tests.{eq?, within, allTo, anyTo, unless, firstRefusal}
 use Rattle.bucket_test.specs.declared.Plan.{Plan}
 
+-- the most thresholds and buckets, the largest threshold, in millionths, and the largest delay (01, "The plan"; the largest allowance and
+-- horizon are in walk/specs/Units)
+abbrev pub countLimit : ℕ
+countLimit = 10
+
+abbrev pub bucketLimit : ℕ
+bucketLimit = 16
+
+abbrev pub thresholdLimit : ℕ
+thresholdLimit = 999999
+
+abbrev pub delayLimit : ℕ
+delayLimit = 65535
+
 module _ (p : Plan) where
   -- the threshold and the allowance at place i, the ends of the bucket at place j; places are counted from 0
   abbrev pub thresholdAt : ℕ → ℕ
@@ -33,7 +47,7 @@ module _ (p : Plan) where
 
   -- 1: K and B in their ranges
   unfoldable pub rule1 : Bool
-  rule1 = within 1 10 (p .count) && within 2 16 (p .buckets)
+  rule1 = within 1 countLimit (p .count) && within 2 bucketLimit (p .buckets)
 
   -- 2: each threshold in its range and above the one before
   unfoldable pub aboveBefore : ℕ → Bool
@@ -41,7 +55,7 @@ module _ (p : Plan) where
   aboveBefore (suc i) = lt? (thresholdAt i) (thresholdAt (suc i))
 
   unfoldable pub rule2 : Bool
-  rule2 = allTo (p .count) (λ i. within 1 999999 (thresholdAt i) && aboveBefore i)
+  rule2 = allTo (p .count) (λ i. within 1 thresholdLimit (thresholdAt i) && aboveBefore i)
 
   -- 3: each allowance in its range
   unfoldable pub rule3 : Bool
@@ -49,7 +63,7 @@ module _ (p : Plan) where
 
   -- 4: k and N in their ranges
   unfoldable pub rule4 : Bool
-  rule4 = within 1 65535 (p .delay) && within 1 horizonLimit (p .horizon)
+  rule4 = within 1 delayLimit (p .delay) && within 1 horizonLimit (p .horizon)
 
   -- 5: in each bucket left < right, not both ends 0 and 1,000,000, and both ends permitted
   unfoldable pub permitted : ℕ → Bool
@@ -91,12 +105,12 @@ module _ (p : Plan) where
   Covered = (x y : ℕ) → 0 < y → x ≤ y → (j : ℕ) × (j < p .buckets) × Holds x y j
 
   pub record Accepted : Type 0 where
-    pub count-range : (1 ≤ p .count) × (p .count ≤ 10)
-    pub buckets-range : (2 ≤ p .buckets) × (p .buckets ≤ 16)
-    pub threshold-range : (i : ℕ) → i < p .count → (1 ≤ thresholdAt i) × (thresholdAt i ≤ 999999)
+    pub count-range : (1 ≤ p .count) × (p .count ≤ countLimit)
+    pub buckets-range : (2 ≤ p .buckets) × (p .buckets ≤ bucketLimit)
+    pub threshold-range : (i : ℕ) → i < p .count → (1 ≤ thresholdAt i) × (thresholdAt i ≤ thresholdLimit)
     pub thresholds-rise : (i : ℕ) → suc i < p .count → thresholdAt i < thresholdAt (suc i)
     pub allowance-range : (i : ℕ) → i < p .count → (1 ≤ allowanceAt i) × (allowanceAt i ≤ allowanceLimit)
-    pub delay-range : (1 ≤ p .delay) × (p .delay ≤ 65535)
+    pub delay-range : (1 ≤ p .delay) × (p .delay ≤ delayLimit)
     pub horizon-range : (1 ≤ p .horizon) × (p .horizon ≤ horizonLimit)
     pub ends-order : (j : ℕ) → j < p .buckets → leftAt j < rightAt j
     pub not-whole : (j : ℕ) → j < p .buckets → ¬ ((leftAt j ≡ 0) × (rightAt j ≡ million))

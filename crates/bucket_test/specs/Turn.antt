@@ -1,32 +1,41 @@
 -- One threshold in a draw (01, "Taking a draw"), and what refusal 11 asks of one.
-use mathlib.Core.Bool.{Bool}
+use mathlib.Core.Bool.{Bool, _&&_}
 use mathlib.Core.List.{List}
 use Prim.Native.Nat.{ℕ}
-use lib.IntN.{pos}
+use lib.IntN.{ℤ, pos, negsuc}
 use lib.ListN.{getD}
 use lib.Signed.{leZ}
 use Rattle.walk.specs.Numbers.{le?}
-use Rattle.walk.specs.Row.{Row, startRow, stepRow}
-use Rattle.walk.specs.Strings.{judged}
-use Rattle.walk.specs.Record.{rowOf, recordOf, padded}
+use Rattle.walk.specs.Row.{Row, stepRow}
+use Rattle.walk.specs.Strings.{judged, isOpen}
+use Rattle.walk.specs.Record.{rowOf, recordOf, isWide, padded}
 use Rattle.walk.specs.Soundness.{isSound, Steppable}
 use Rattle.walk.specs.declared.Mark.{Mark}
 use Rattle.walk.specs.declared.Mark.the-variants.{Open, Above, AtMost}
 use Rattle.walk.specs.declared.Walked.{Walked}
 use Rattle.bucket_test.specs.Tests.{within}
+use Rattle.bucket_test.specs.Plan.{thresholdAt, spendingOf}
+use Rattle.bucket_test.specs.Words.{partAt}
+use Rattle.bucket_test.specs.declared.Plan.{Plan}
 use Rattle.bucket_test.specs.declared.Threshold.{Threshold}
 use Rattle.bucket_test.specs.declared.State.{State}
 
--- an open record with the boundaries of step 0; the record of a refused beginning, zeros in every number
+-- an open record with these boundaries and nothing spent: that of step 0, and that of a refused beginning, zeros in every number
+abbrev pub openRecord : ℤ → ℕ → Threshold
+openRecord lower upper = record { mark = Open; walked = record { lower = lower; upper = upper; over = 0; under = 0 } }
+
 unfoldable pub startRecord : Threshold
-startRecord = record { mark = Open; walked = recordOf startRow }
+startRecord = openRecord (negsuc 0) 1
 
 abbrev pub noRecord : Threshold
-noRecord = record { mark = Open; walked = record { lower = pos 0; upper = 0; over = 0; under = 0 } }
+noRecord = openRecord (pos 0) 0
 
--- the record at place i
 abbrev pub recordAt : State → ℕ → Threshold
 recordAt s i = getD (s .records) i noRecord
+
+-- an open threshold that is wide
+abbrev pub wideOpen : Threshold → Bool
+wideOpen t = isOpen (t .mark) && isWide (t .walked)
 
 -- S at or over the upper boundary of step n marks it above, S at or under the lower one at most, else it stays open
 unfoldable pub marked : ℕ → ℕ → Walked → Mark
@@ -58,3 +67,19 @@ abbrev pub recordSound : ℕ → ℕ → ℕ → Mark → Threshold → List ℕ
 recordSound e n S Open t part = isSound e n S (t .walked) part
 recordSound e n S (Above u) t part = within 1 n u
 recordSound e n S (AtMost u) t part = within 1 n u
+
+-- ---- the threshold at place i of a plan, whose record is t, with its part of the words
+
+module _ (p : Plan) (words : List ℕ) (n S i : ℕ) (t : Threshold) where
+  abbrev pub recordTurn : Threshold
+  recordTurn = turnRecord (thresholdAt p i) (spendingOf p i n) n S (t .mark) t (partAt i words)
+
+  abbrev pub partTurn : List ℕ
+  partTurn = turnPart (thresholdAt p i) (spendingOf p i n) n S (t .mark) t (partAt i words)
+
+  abbrev pub soundAt : Bool
+  soundAt = recordSound (spendingOf p i n) n S (t .mark) t (partAt i words)
+
+-- what its turn at draw n asks
+abbrev pub MayTurnAt : Plan → List ℕ → ℕ → ℕ → Threshold → Type 0
+MayTurnAt p words n i t = MayTurn (thresholdAt p i) (spendingOf p i n) (t .mark) t (partAt i words)

@@ -11,12 +11,12 @@ ghost use mathlib.Core.Bool.{_&&_};
 ghost use Prim.Native.Nat.{_≤_, max, min};
 ghost use Rattle.walk.specs.Numbers.{le?, only, choose};
 ghost use Rattle.walk.specs.Units.{million};
-ghost use Rattle.walk.specs.Strings.{Upper, Lower, isOn, isOpen};
-ghost use Rattle.walk.specs.Record.{isWide};
-ghost use Rattle.bucket_test.specs.Answers.{lowOf, highOf, anyWide, contains, firstBucket, answerOf};
+ghost use Rattle.walk.specs.Strings.{Upper, Lower, isOn};
+ghost use Rattle.bucket_test.specs.Turn.{wideOpen};
+ghost use Rattle.bucket_test.specs.Answers.{lowOf, highOf, anyWide, firstBucket, answerOf};
 
 // The interval from low to high, in millionths.
-pub struct Interval {
+pub(crate) struct Interval {
     pub low: u32,
     pub high: u32,
 }
@@ -51,8 +51,8 @@ fn narrowed(v: Interval, m: Mark, t: u32) -> Interval
     }
 }
 
-// The interval of a state. For this crate only: an accepted plan has no more thresholds.
-pub fn interval_of(p: Plan, s: State) -> Interval
+// The interval of a state. An accepted plan has at most ten thresholds.
+pub(crate) fn interval_of(p: Plan, s: State) -> Interval
     requires { ⌜ p .count ≤ 10 ⌝ }
     ensures { λ r. ⌜ (r .low ≡ lowOf p s) × (r .high ≡ highOf p s) ⌝ }
 {
@@ -73,9 +73,8 @@ pub fn interval_of(p: Plan, s: State) -> Interval
     v
 }
 
-// An open threshold that is wide.
 fn open_and_wide(t: Threshold) -> bool
-    ensures { λ r. ⌜ r ≡ (isOpen (t .mark) && isWide (t .walked)) ⌝ }
+    ensures { λ r. ⌜ r ≡ wideOpen t ⌝ }
 {
     let m = t.mark;
     let w = t.walked;
@@ -86,8 +85,7 @@ fn open_and_wide(t: Threshold) -> bool
     }
 }
 
-// Whether an open threshold is wide. For this crate only.
-pub fn any_wide(p: Plan, s: State) -> bool
+fn any_wide(p: Plan, s: State) -> bool
     requires { ⌜ p .count ≤ 10 ⌝ }
     ensures { λ r. ⌜ r ≡ anyWide p s ⌝ }
 {
@@ -114,8 +112,8 @@ fn holds_interval(left: u32, right: u32, low: u32, high: u32) -> bool
     false
 }
 
-// The place of the first bucket that contains the interval, or the number of buckets. For this crate only.
-pub fn first_bucket(p: Plan, low: u32, high: u32) -> u32
+// The place of the first bucket that contains the interval, or the number of buckets.
+fn first_bucket(p: Plan, low: u32, high: u32) -> u32
     requires { ⌜ p .buckets ≤ 16 ⌝ }
     ensures { λ r. ⌜ r ≡ firstBucket p low high ⌝ }
 {
@@ -133,8 +131,8 @@ pub fn first_bucket(p: Plan, low: u32, high: u32) -> u32
     j
 }
 
-// The first answer that fits. For this crate only: the plan is accepted.
-pub fn answer_of(p: Plan, s: State) -> Answer
+// The first answer that fits, where the plan is accepted.
+pub(crate) fn answer_of(p: Plan, s: State) -> Answer
     requires { ⌜ (p .count ≤ 10) × (p .buckets ≤ 16) ⌝ }
     ensures { λ r. ⌜ r ≡ answerOf p s ⌝ }
 {

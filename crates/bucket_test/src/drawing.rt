@@ -9,9 +9,8 @@ use crate::answering::answer_of;
 use crate::answering::interval_of;
 use crate::judging::state_sound;
 use crate::plan_check::plan_refusal;
-use crate::starting::no_state;
+use crate::starting::open_state;
 use crate::starting::start_parts;
-use crate::starting::start_state;
 use crate::turning::turn_all;
 ghost use mathlib.Core.Path.{_≡_};
 ghost use mathlib.Core.Bool.{true, false};
@@ -40,14 +39,14 @@ pub fn begin(p: Plan, words: &mut [u64]) -> Drawn
 {
     let bad = plan_refusal(p);
     if bad > 0 {
-        return refused(bad, no_state());
+        return refused(bad, open_state(0, 0));
     }
     let parts = p.count as usize;
     if words.len() != 769 * parts {
-        return refused(8, no_state());
+        return refused(8, open_state(0, 0));
     }
     start_parts(words, parts);
-    let state = start_state();
+    let state = open_state(-1, 1);
     let answer = answer_of(p, state);
     Drawn {
         answer: answer,
@@ -55,7 +54,6 @@ pub fn begin(p: Plan, words: &mut [u64]) -> Drawn
     }
 }
 
-// Whether an answer ends the test.
 fn ends(a: Answer) -> bool
     ensures { λ r. ⌜ r ≡ isEnding a ⌝ }
 {
@@ -69,7 +67,7 @@ fn ends(a: Answer) -> bool
     }
 }
 
-// n and S rise, and each threshold has its turn. For this crate only: nothing refuses the draw.
+// n and S rise, and each threshold has its turn, where nothing refuses the draw.
 fn take_one(p: Plan, s: State, words: &mut [u64], d: u8) -> State
     requires { ⌜
         (planRefusal p ≡ 0)
@@ -144,7 +142,6 @@ pub fn report_on(p: Plan, s: State) -> Report
     }
 }
 
-// Whether an answer is `open`.
 pub fn is_open(a: Answer) -> bool
     ensures { λ r. ⌜ r ≡ goesOn a ⌝ }
 {

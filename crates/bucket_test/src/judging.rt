@@ -3,6 +3,7 @@
 use crate::Plan;
 use crate::State;
 use crate::Threshold;
+use crate::plan_check::in_range;
 use walk::Mark;
 use walk::soundness::is_sound;
 use walk::spending::spending_at;
@@ -10,18 +11,10 @@ ghost use mathlib.Core.Path.{_≡_};
 ghost use Prim.Native.Nat.{_*_, _≤_};
 ghost use lib.ListN.{length};
 ghost use Rattle.walk.specs.Units.{wide, horizonLimit};
-ghost use Rattle.bucket_test.specs.Tests.{within, allTo};
-ghost use Rattle.bucket_test.specs.Plan.{spendingOf, planRefusal};
-ghost use Rattle.bucket_test.specs.Words.{partAt};
-ghost use Rattle.bucket_test.specs.Turn.{recordAt, recordSound};
+ghost use Rattle.bucket_test.specs.Tests.{allTo};
+ghost use Rattle.bucket_test.specs.Plan.{planRefusal};
+ghost use Rattle.bucket_test.specs.Turn.{recordAt, recordSound, soundAt};
 ghost use Rattle.bucket_test.specs.Draw.{stateSound};
-
-// A step from 1 to n.
-fn is_step(t: u32, n: u32) -> bool
-    ensures { λ r. ⌜ r ≡ within 1 n t ⌝ }
-{
-    1 <= t && t <= n
-}
 
 // Of any record and any words: they pass refusal 11 after n draws with so many ones, with e = E(n).
 fn record_sound(t: Threshold, part: &[u64], e: u64, n: u32, ones: u32) -> bool
@@ -33,15 +26,15 @@ fn record_sound(t: Threshold, part: &[u64], e: u64, n: u32, ones: u32) -> bool
             let w = t.walked;
             is_sound(part, w, n, ones, e)
         }
-        Mark::Above(u) => is_step(u, n),
-        Mark::AtMost(u) => is_step(u, n),
+        Mark::Above(u) => in_range(u, 1, n),
+        Mark::AtMost(u) => in_range(u, 1, n),
     }
 }
 
-// Whether each of the first K records passes refusal 11. For this crate only: n is judged before.
+// Whether each of the first K records passes refusal 11; n is judged before.
 fn records_sound(p: Plan, s: State, words: &[u64]) -> bool
     requires { ⌜ (planRefusal p ≡ 0) × (length (now words) ≡ wide * p .count) × (s .n ≤ horizonLimit) ⌝ }
-    ensures { λ r. ⌜ r ≡ allTo (p .count) (λ i. recordSound (spendingOf p i (s .n)) (s .n) (s .ones) (recordAt s i .mark) (recordAt s i) (partAt i (now (words .entry)))) ⌝ }
+    ensures { λ r. ⌜ r ≡ allTo (p .count) (λ i. soundAt p (now (words .entry)) (s .n) (s .ones) i (recordAt s i)) ⌝ }
 {
     let count = p.count as usize;
     for i in 0..count {
@@ -55,8 +48,8 @@ fn records_sound(p: Plan, s: State, words: &[u64]) -> bool
     true
 }
 
-// Refusal 11, of any state: n over N or S over n, or a record of the first K. For this crate only: a draw has judged plan and words.
-pub fn state_sound(p: Plan, s: State, words: &[u64]) -> bool
+// Refusal 11, of any state: n over N or S over n, or a record of the first K. A draw has judged plan and words.
+pub(crate) fn state_sound(p: Plan, s: State, words: &[u64]) -> bool
     requires { ⌜ (planRefusal p ≡ 0) × (length (now words) ≡ wide * p .count) ⌝ }
     ensures { λ r. ⌜ r ≡ stateSound p s (now (words .entry)) ⌝ }
 {

@@ -7,7 +7,7 @@ ghost use Rattle.bucket_test.specs.Plan.{leftAt, rightAt, rule1, rule2, 
 use crate::Plan;
 
 // From lo to hi, both included.
-fn in_range(x: u32, lo: u32, hi: u32) -> bool
+pub(crate) fn in_range(x: u32, lo: u32, hi: u32) -> bool
     ensures { λ r. ⌜ r ≡ within lo hi x ⌝ }
 {
     lo <= x && x <= hi

@@ -1,4 +1,4 @@
-// What a beginning hands on: ten records of step 0 and the words of each part, or no state (01, "Words lent to a test").
+// What a beginning hands on: ten open records and the words of each part (01, "Words lent to a test").
 
 use crate::State;
 use crate::Threshold;
@@ -11,31 +11,24 @@ ghost use Rattle.walk.specs.Units.{wide};
 ghost use Rattle.walk.specs.Row.{startRow};
 ghost use Rattle.walk.specs.Record.{padded};
 ghost use Rattle.bucket_test.specs.Tests.{joinTo};
-ghost use Rattle.bucket_test.specs.Turn.{startRecord, noRecord};
-ghost use Rattle.bucket_test.specs.Draw.{startState, noState};
+ghost use Rattle.bucket_test.specs.Turn.{openRecord};
+ghost use Rattle.bucket_test.specs.Draw.{tenOf};
 
-// An open record with step 0's boundaries.
-fn start_record() -> Threshold
-    ensures { λ r. ⌜ r ≡ startRecord ⌝ }
+// A state before any draw: ten open records with these boundaries and nothing spent.
+pub(crate) fn open_state(lower: i32, upper: u32) -> State
+    ensures { λ r. ⌜ r ≡ tenOf (openRecord lower upper) ⌝ }
 {
     let mark = Mark::Open;
     let walked = Walked {
-        lower: -1,
-        upper: 1,
+        lower: lower,
+        upper: upper,
         over: 0,
         under: 0,
     };
-    Threshold {
+    let t = Threshold {
         mark: mark,
         walked: walked,
-    }
-}
-
-// Ten of them: the state of a test that begins.
-pub fn start_state() -> State
-    ensures { λ r. ⌜ r ≡ startState ⌝ }
-{
-    let t = start_record();
+    };
     let records = [t; 10];
     State {
         n: 0,
@@ -44,37 +37,7 @@ pub fn start_state() -> State
     }
 }
 
-// A record of zeros, with an open mark.
-fn no_record() -> Threshold
-    ensures { λ r. ⌜ r ≡ noRecord ⌝ }
-{
-    let mark = Mark::Open;
-    let walked = Walked {
-        lower: 0,
-        upper: 0,
-        over: 0,
-        under: 0,
-    };
-    Threshold {
-        mark: mark,
-        walked: walked,
-    }
-}
-
-// What stands in the place of a state where a beginning is refused.
-pub fn no_state() -> State
-    ensures { λ r. ⌜ r ≡ noState ⌝ }
-{
-    let t = no_record();
-    let records = [t; 10];
-    State {
-        n: 0,
-        ones: 0,
-        records: records,
-    }
-}
-
-// The words of step 0 in one part: count 0 has the whole mass. For this crate only.
+// The words of step 0 in one part: count 0 has the whole mass.
 fn start_part(part: &mut [u64])
     requires { ⌜ length (now part) ≡ wide ⌝ }
     ensures { λ _. ⌜ now (part .exit) ≡ padded (startRow .masses) ⌝ }
@@ -85,8 +48,8 @@ fn start_part(part: &mut [u64])
     part[0] = 4398046511104;
 }
 
-// .. in each of so many parts. For this crate only.
-pub fn start_parts(words: &mut [u64], count: usize)
+// .. in each of so many parts.
+pub(crate) fn start_parts(words: &mut [u64], count: usize)
     requires { ⌜ (count ≤ 10) × (length (now words) ≡ wide * count) ⌝ }
     ensures { λ _. ⌜ now (words .exit) ≡ joinTo count (λ i. padded (startRow .masses)) ⌝ }
 {

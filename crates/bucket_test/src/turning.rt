@@ -11,9 +11,8 @@ ghost use Prim.Native.Nat.{ℕ, _*_, _≤_, _<_};
 ghost use lib.ListN.{length, getD};
 ghost use Rattle.walk.specs.Units.{wide, horizonLimit};
 ghost use Rattle.bucket_test.specs.Tests.{overTo, joinTo};
-ghost use Rattle.bucket_test.specs.Plan.{thresholdAt, spendingOf, planRefusal};
-ghost use Rattle.bucket_test.specs.Words.{partAt};
-ghost use Rattle.bucket_test.specs.Turn.{noRecord, marked, turnRecord, turnPart, MayTurn};
+ghost use Rattle.bucket_test.specs.Plan.{planRefusal};
+ghost use Rattle.bucket_test.specs.Turn.{noRecord, marked, turnRecord, turnPart, MayTurn, recordTurn, partTurn, MayTurnAt};
 
 // The mark after step n: S at or over the upper boundary, at or under the lower one, or neither. Of any boundaries: S is compared with
 // the lower one in 64 bits.
@@ -53,9 +52,9 @@ fn turn(t: Threshold, part: &mut [u64], a: u32, e: u64, n: u32, ones: u32) -> Th
     }
 }
 
-// The turns of the first K thresholds at draw n, each with its own part of the words; the records past K stay. For this crate only: a
-// draw has judged the plan, the words and the state.
-pub fn turn_all(
+// The turns of the first K thresholds at draw n, each with its own part of the words; the records past K stay. A draw has
+// judged the plan, the words and the state.
+pub(crate) fn turn_all(
     p: Plan,
     records: [Threshold; 10],
     words: &mut [u64],
@@ -66,11 +65,11 @@ pub fn turn_all(
         (planRefusal p ≡ 0)
         × (length (now words) ≡ wide * p .count)
         × (n ≤ horizonLimit)
-        × ((i : ℕ) → i < p .count → MayTurn (thresholdAt p i) (spendingOf p i n) (getD records i noRecord .mark) (getD records i noRecord) (partAt i (now words)))
+        × ((i : ℕ) → i < p .count → MayTurnAt p (now words) n i (getD records i noRecord))
         ⌝ }
     ensures { λ r. ⌜
-        (r ≡ overTo (p .count) (λ i t. turnRecord (thresholdAt p i) (spendingOf p i n) n ones (t .mark) t (partAt i (now (words .entry)))) records)
-        × (now (words .exit) ≡ joinTo (p .count) (λ i. turnPart (thresholdAt p i) (spendingOf p i n) n ones (getD records i noRecord .mark) (getD records i noRecord) (partAt i (now (words .entry)))))
+        (r ≡ overTo (p .count) (recordTurn p (now (words .entry)) n ones) records)
+        × (now (words .exit) ≡ joinTo (p .count) (λ i. partTurn p (now (words .entry)) n ones i (getD records i noRecord)))
         ⌝ }
 {
     let count = p.count as usize;

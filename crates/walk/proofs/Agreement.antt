@@ -13,7 +13,7 @@ use Rattle.walk.specs.Numbers.{le?, lt?, between, only, sumTo, sum, Smal
 use Rattle.walk.specs.Units.{M, million, wide}
 use Rattle.walk.specs.Spending.{IsSpending}
 use Rattle.walk.specs.Mass.{massUp}
-use Rattle.walk.specs.Walk.{Walk, previous, cellwise, newMass, massFrom, massBelow, FitsUpper, FitsLower, upperBoundary, firstLive, start, absorbed, stepWalk, walk, firstAt, upperAt, NoWideBefore}
+use Rattle.walk.specs.Walk.{Walk, below, lower, previous, cellwise, newMass, massFrom, massBelow, FitsUpper, FitsLower, upperBoundary, firstLive, start, absorbed, stepWalk, walk, firstAt, upperAt, wide?, NoWideBefore}
 use Rattle.walk.specs.Row.{Row, upper, byCount, startRow, cellsBy, newMasses, kept, dropped, cut, stepRow, rows, Sound}
 use Rattle.walk.specs.Facts.{asWalk, Same}
 use Rattle.walk.proofs.Tests.{test, Le?, le, gt, le?-complete, le?-fails, only-only, only-fails, only-holds, sum-cong, sum-le, sum-zero}
@@ -22,6 +22,7 @@ use Rattle.walk.proofs.Rounding.{mass-none}
 use Rattle.walk.proofs.Cells.{cells-length, comes, cells-getD}
 use Rattle.walk.proofs.Cuts.{Keeps, Drops}
 use Rattle.walk.proofs.Searches.{smallest-only, largest-only, found-up, found-down}
+use Rattle.walk.proofs.Boundaries.{wide-fails}
 use Rattle.walk.proofs.RowSteps.{keep, drop-low, apart, step-first, step-upper, allowed-next, rows-sound}
 
 at-below : (f : ℕ) (xs : List ℕ) (c : ℕ) → c < f → byCount f xs c ≡ 0
@@ -188,7 +189,9 @@ cut-at : (f d m : ℕ) (xs : List ℕ) (c : ℕ) → only (between (f + d) (f + 
 cut-at f d m xs =
     by-place (f + d) (λ c. only (between (f + d) (f + d + m) c) (byCount f xs c) ≡ byCount (f + d) (take m (drop d xs)) c)
     (λ c h. rw (le?-fails (f + d) c h) (sym (at-below (f + d) (take m (drop d xs)) c h)))
-    (λ i. rw (at-add (f + d) (take m (drop d xs)) i, le?-complete (f + d) (f + d + i) (omega arith), add-assoc f d i, at-add f xs (d + i)) (here i (lt? (f + (d + i)) (f + d + m)) (test (suc (f + (d + i))) (f + d + m))))
+    (λ i.
+    rw (at-add (f + d) (take m (drop d xs)) i, le?-complete (f + d) (f + d + i) (omega arith), add-assoc f d i, at-add f xs (d + i))
+    (here i (lt? (f + (d + i)) (f + d + m)) (test (suc (f + (d + i))) (f + d + m))))
   where
     here : (i : ℕ) (b : Bool) → Le? (suc (f + (d + i))) (f + d + m) b → only b (getD xs (d + i) 0) ≡ getD (take m (drop d xs)) i 0
     here i true (le k) = sym (getD-take m (drop d xs) i 0 (omega arith) ∙ getD-drop d xs i 0)
@@ -297,8 +300,11 @@ module _ (a : ℕ) (threshold : a ≤ million) (E : ℕ → ℕ) (spends : IsSpe
   in-order n = omega (arith, first-at n, upper-at n)
 
   pub not-wide : (n : ℕ) → NoWideBefore a E n ↔ ((t : ℕ) → t < n → ¬ (length (rows a E t .masses) ≡ wide))
-  unfolding NoWideBefore
+  unfolding NoWideBefore lower
   not-wide n = (
-    λ none t l e. none t l (omega (arith, same t .first-same, same t .upper-same, e)),
-    λ none t l e. none t l (omega (arith, same t .first-same, same t .upper-same, e)),
+    λ none t l e. says t .0 (none t l) (omega (arith, same t .first-same, same t .upper-same, e)),
+    λ none t l. says t .1 (λ e. none t l (omega (arith, same t .first-same, same t .upper-same, e))),
   )
+    where
+      says : (t : ℕ) → (wide? (walk a E t .upper) (below (walk a E t .first)) ≡ false) ↔ (¬ (walk a E t .upper ≡ walk a E t .first + wide))
+      says t = wide-fails (walk a E t .upper) (walk a E t .first) (omega (arith, same t .first-same, same t .upper-same))

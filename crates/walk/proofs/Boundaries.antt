@@ -1,14 +1,16 @@
 -- Laws of lower boundaries, which are signed. Assumes nothing.
 use mathlib.Core.Path.{_≡_, refl, sym, ap}
 use mathlib.Core.Bool.{Bool, true, false, cond}
+use mathlib.Core.Logic.{_↔_}
 use Prim.Native.Nat.{ℕ, zero, suc, _+_, _-_, _≤_, _<_}
 use native.Mathlib.Omega.{arith}
-use borrow.Author.Tests.{le-ltb, leb-true, le-leb, lt-leb}
+use borrow.Author.Tests.{le-ltb, leb-true, le-leb, lt-leb, eqb-false, ne-eqb}
 use lib.Dec.{leb, ltb, le→leb, leb·zero}
 use lib.IntN.{ℤ, pos, negsuc, _-ℤ_}
 use lib.Signed.{leZ, ltZ, _≤ℤ_, leZ-yes}
-use Rattle.walk.specs.Numbers.{le?, lt?}
-use Rattle.walk.specs.Walk.{below}
+use Rattle.walk.specs.Numbers.{le?, lt?, eqZ?}
+use Rattle.walk.specs.Units.{wide}
+use Rattle.walk.specs.Walk.{below, wide?}
 use Rattle.walk.specs.Record.{firstAbove}
 use Rattle.walk.proofs.Tests.{clash, test, Le?, le, gt, le?-fails}
 
@@ -28,6 +30,13 @@ apart-below u (suc zero) h = ap pos (omega arith)
 apart-below u (suc (suc g)) h =
     let e : u - suc g ≡ suc (u - suc (suc g)) = omega arith in
     rw (le-ltb u (suc g) (omega arith), e)
+
+-- not wide, in plain numbers
+pub wide-fails : (u f : ℕ) → f ≤ u → (wide? u (below f) ≡ false) ↔ (¬ (u ≡ f + wide))
+unfolding wide? eqZ?
+wide-fails u f h =
+    rw (apart-below u f h)
+    (λ e z. eqb-false (suc (u - f)) (suc wide) e (omega arith), λ n. ne-eqb (suc (u - f)) (suc wide) (λ e. n (omega arith)))
 
 pub apart-order : (u f : ℕ) → leZ (pos 2) (pos u -ℤ below f) ≡ true → f < u
 unfolding below

@@ -5,17 +5,17 @@ use mathlib.Core.Logic.{_↔_, ⊎-elim}
 use Prim.Native.Nat.{ℕ, zero, suc, _+_, _*_, _-_, _^_, _≤_}
 use native.Mathlib.Nat.{sub-add-cancel, mul-le-mul-right, pow-suc, pow-zero, eq-or-lt-of-le}
 use native.Mathlib.Omega.{arith}
-use borrow.Author.Tests.{ne-eqb, eqb-false}
+use borrow.Author.Tests.{not-true}
 use lib.ListN.{length}
 use Rattle.walk.specs.Numbers.{le?, lt?, between, only, sumTo, sum}
 use Rattle.walk.specs.Units.{M, million}
 use Rattle.walk.specs.Spending.{IsSpending}
 use Rattle.walk.specs.Mass.{reaching}
-use Rattle.walk.specs.Walk.{previous, newMass, massFrom, massBelow, start, absorbed, stepWalk, walk, firstAt, upperAt, Wide, NoWideBefore, noWideBefore?}
+use Rattle.walk.specs.Walk.{previous, newMass, massFrom, massBelow, start, absorbed, stepWalk, walk, firstAt, upperAt, NoWideBefore, noWideBefore?}
 use Rattle.walk.specs.Row.{total, rows, roundedBy}
 use Rattle.walk.specs.Strings.{Draws, weight, Side, Upper, Lower, MeetsFirst, verdict, mark, isOn, isOpen, lastStep, chance}
 use Rattle.walk.specs.Chance.{Meets, meets?, meeting, spent, Bounds, ChanceTheorem, AllowedTheorem}
-use Rattle.walk.proofs.Tests.{and-true, not-true, only-scale, sum-cong, sum-le, sum-mul}
+use Rattle.walk.proofs.Tests.{and-true, only-scale, sum-cong, sum-le, sum-mul}
 use Rattle.walk.proofs.Rounding.{mass-ge}
 use Rattle.walk.proofs.RowSteps.{rows-sound, rows-total, rounded-few}
 use Rattle.walk.proofs.Agreement.{at-total, same, in-order, not-wide}
@@ -37,16 +37,13 @@ narrow-says : (a : ℕ) (E : ℕ → ℕ) (n : ℕ) → (noWideBefore? a E n ≡
 unfolding noWideBefore? NoWideBefore
 narrow-says a E zero = (λ e t l. absurd (omega arith), λ none. refl)
 narrow-says a E (suc n) = (
-  λ e t l w.
+  λ e t l.
       let b = and-true (noWideBefore? a E n) _ e in
       ⊎-elim
-      (λ (q : suc t ≡ suc n).
-      let r : t ≡ n = omega arith in
-      let v : Wide (walk a E n) = rw r at w in
-      eqb-false _ _ (not-true _ (b .1)) v)
-      (λ k. narrow-says a E n .0 (b .0) t (omega arith) w)
+      (λ (q : suc t ≡ suc n). let r : t ≡ n = omega arith in rw r (not-true _ (b .1)))
+      (λ k. narrow-says a E n .0 (b .0) t (omega arith))
       (eq-or-lt-of-le l),
-  λ none. cc (narrow-says a E n .1 (λ t l. none t (omega arith)), ne-eqb _ _ (none n (omega arith))),
+  λ none. cc (narrow-says a E n .1 (λ t l. none t (omega arith)), none n (omega arith)),
 )
 
 module _ (a : ℕ) (threshold : a ≤ million) (E : ℕ → ℕ) (spends : IsSpending E) where
@@ -68,7 +65,8 @@ module _ (a : ℕ) (threshold : a ≤ million) (E : ℕ → ℕ) (spends : IsSpe
 
   -- ---- one step of the walk, by the verdict on each count
 
-  verdicts : (t c : ℕ) → (isOpen (verdict F U t c) ≡ between (F t) (U t) c) × (isOn Upper (verdict F U t c) ≡ le? (U t) c) × (isOn Lower (verdict F U t c) ≡ lt? c (F t))
+  verdicts : (t c : ℕ) → let v = verdict F U t c in
+      (isOpen v ≡ between (F t) (U t) c) × (isOn Upper v ≡ le? (U t) c) × (isOn Lower v ≡ lt? c (F t))
   verdicts t c = verdict-tests F U t c (orders t)
 
   mass-suc : (n c : ℕ) → walk a E (suc n) .mass c ≡ only (isOpen (verdict F U (suc n) c)) (newMass a (walk a E n .mass) c)
@@ -76,7 +74,8 @@ module _ (a : ℕ) (threshold : a ≤ million) (E : ℕ → ℕ) (spends : IsSpe
   mass-suc n c = rw (verdicts (suc n) c .0)
 
   spent-suc : (side : Side) (n : ℕ)
-      → spent side (walk a E (suc n)) ≡ spent side (walk a E n) + sumTo (suc (suc n)) (λ c. only (isOn side (verdict F U (suc n) c)) (newMass a (walk a E n .mass) c))
+      → spent side (walk a E (suc n))
+      ≡ spent side (walk a E n) + sumTo (suc (suc n)) (λ c. only (isOn side (verdict F U (suc n) c)) (newMass a (walk a E n .mass) c))
   unfolding walk stepWalk absorbed firstAt upperAt massFrom massBelow
   spent-suc Upper n = ap (λ (x : ℕ). walk a E n .over + x) (sum-cong (suc (suc n)) _ _ (λ c l. rw (verdicts (suc n) c .1)))
   spent-suc Lower n = ap (λ (x : ℕ). walk a E n .under + x) (sum-cong (suc (suc n)) _ _ (λ c l. rw (verdicts (suc n) c .2)))

@@ -1,16 +1,16 @@
 -- What refusal 11 leaves: a row that may walk on; and it never refuses a row of the walk. Assumes nothing.
 use mathlib.Core.Path.{_≡_, refl, sym, ap, _∙_}
 use mathlib.Core.Bool.{true, false}
+use mathlib.Core.Logic.{_↔_}
 use mathlib.Core.List.{List, _++_}
 use Prim.Native.Nat.{ℕ, suc, _+_, _-_, _≤_, _<_}
 use native.Mathlib.Omega.{arith}
-use borrow.Author.Tests.{leb-true, le-leb, eqb-false}
-use lib.Dec.{eqb}
+use borrow.Author.Tests.{leb-true, le-leb}
 use lib.IntN.{ℤ, pos, negsuc, _-ℤ_}
 use lib.ListN.{length, take, replicate, length-append, length-replicate}
 use lib.Seq.{length-take-le, take-at}
 use lib.Signed.{leZ, ltZ}
-use Rattle.walk.specs.Numbers.{le?, lt?, eqZ?, allUpTo}
+use Rattle.walk.specs.Numbers.{le?, lt?, allUpTo}
 use Rattle.walk.specs.Units.{M, million, wide, massLimit, horizonLimit}
 use Rattle.walk.specs.Spending.{IsSpending}
 use Rattle.walk.specs.Walk.{below}
@@ -19,7 +19,7 @@ use Rattle.walk.specs.Record.{firstAbove, rowOf, recordOf, isWide, padde
 use Rattle.walk.specs.Soundness.{boundariesSound, isSound, Steppable}
 use Rattle.walk.specs.declared.Walked.{Walked}
 use Rattle.walk.proofs.Tests.{and-true, le?-sound, le?-complete}
-use Rattle.walk.proofs.Boundaries.{apart-below, apart-order, above-below, below-above, below-least, over-below}
+use Rattle.walk.proofs.Boundaries.{apart-below, wide-fails, apart-order, above-below, below-above, below-least, over-below}
 use Rattle.walk.proofs.Lists.{all-more}
 use Rattle.walk.proofs.RowSteps.{allowed-next, rows-sound, rows-small, rows-fit}
 
@@ -36,14 +36,16 @@ unfolding rowOf recordOf padded
 row-back r = λ i. record { first = above-below (r .first) i; masses = masses-back i; over = r .over; under = r .under }
   where
     masses-back : take (upper r - firstAbove (below (r .first))) (r .masses ++ replicate (wide - length (r .masses)) 0) ≡ r .masses
-    masses-back = take-at (r .masses) (replicate (wide - length (r .masses)) 0) (upper r - firstAbove (below (r .first))) (rw (above-below (r .first)) (omega arith))
+    masses-back =
+        take-at (r .masses) (replicate (wide - length (r .masses)) 0) (upper r - firstAbove (below (r .first)))
+        (rw (above-below (r .first)) (omega arith))
 
 -- a row's record is wide exactly when the row has 769 live counts
-pub wide-record : (r : Row) → isWide (recordOf r) ≡ eqb (suc (length (r .masses))) 770
-unfolding isWide recordOf eqZ?
-wide-record r =
-    let d : upper r - r .first ≡ length (r .masses) = omega arith in
-    rw (apart-below (upper r) (r .first) (omega arith), d)
+pub narrow-record : (r : Row) → (isWide (recordOf r) ≡ false) ↔ (¬ (length (r .masses) ≡ wide))
+unfolding isWide recordOf
+narrow-record r =
+    let w = wide-fails (upper r) (r .first) (omega arith) in
+    (λ e h. w .0 e (omega arith), λ n. w .1 (λ e. n (omega arith)))
 
 -- ---- what the checks on the boundaries say
 
@@ -52,32 +54,36 @@ pub record Between (e n s f : ℕ) (w : Walked) : Type 0 where
   pub signed : w .lower ≡ below f
   pub top : w .upper ≤ suc n
   pub order : f < w .upper
-  pub fits : w .upper ≤ f + 769
+  pub fits : w .upper ≤ f + wide
   pub from : f ≤ s
   pub to : s < w .upper
   pub over-fits : w .over ≤ e
   pub under-fits : w .under ≤ e
 
 module _ (e n s : ℕ) (w : Walked) where
+  apart : (f : ℕ) → w .lower ≡ below f → f ≤ w .upper → pos (w .upper) -ℤ w .lower ≡ pos (suc (w .upper - f))
+  apart f z h = ap (λ (y : ℤ). pos (w .upper) -ℤ y) z ∙ apart-below (w .upper) f h
+
   pub boundaries-say : boundariesSound e n s w ≡ true → Between e n s (firstAbove (w .lower)) w
   unfolding boundariesSound
   boundaries-say h =
       let a1 = and-true (leZ (negsuc 0) (w .lower)) _ h in
       let a2 = and-true (le? (w .upper) (suc n)) _ (a1 .1) in
       let a3 = and-true (leZ (pos 2) (pos (w .upper) -ℤ w .lower)) _ (a2 .1) in
-      let a4 = and-true (leZ (pos (w .upper) -ℤ w .lower) (pos 770)) _ (a3 .1) in
+      let a4 = and-true (leZ (pos (w .upper) -ℤ w .lower) (pos (suc wide))) _ (a3 .1) in
       let a5 = and-true (ltZ (w .lower) (pos s)) _ (a4 .1) in
       let a6 = and-true (lt? s (w .upper)) _ (a5 .1) in
       let a7 = and-true (le? (w .over) e) _ (a6 .1) in
-      let z : w .lower ≡ below (firstAbove (w .lower)) = below-above (w .lower) (a1 .0) in
-      let o : firstAbove (w .lower) < w .upper = apart-order (w .upper) (firstAbove (w .lower)) (ap (λ (y : ℤ). leZ (pos 2) (pos (w .upper) -ℤ y)) (sym z) ∙ a3 .0) in
-      let d : pos (w .upper) -ℤ w .lower ≡ pos (suc (w .upper - firstAbove (w .lower))) = ap (λ (y : ℤ). pos (w .upper) -ℤ y) z ∙ apart-below (w .upper) (firstAbove (w .lower)) (omega arith) in
+      let f : ℕ = firstAbove (w .lower) in
+      let z : w .lower ≡ below f = below-above (w .lower) (a1 .0) in
+      let o : f < w .upper = apart-order (w .upper) f (ap (λ (y : ℤ). leZ (pos 2) (pos (w .upper) -ℤ y)) (sym z) ∙ a3 .0) in
+      let d : pos (w .upper) -ℤ w .lower ≡ pos (suc (w .upper - f)) = apart f z (omega arith) in
       record {
         signed = z;
         top = le?-sound (w .upper) (suc n) (a2 .0);
         order = o;
-        fits = omega (arith, leb-true (suc (w .upper - firstAbove (w .lower))) 770 (ap (λ (y : ℤ). leZ y (pos 770)) (sym d) ∙ a4 .0));
-        from = le?-sound (firstAbove (w .lower)) s (sym (over-below (firstAbove (w .lower)) s) ∙ ap (λ (y : ℤ). ltZ y (pos s)) (sym z) ∙ a5 .0);
+        fits = omega (arith, leb-true (suc (w .upper - f)) (suc wide) (ap (λ (y : ℤ). leZ y (pos (suc wide))) (sym d) ∙ a4 .0));
+        from = le?-sound f s (sym (over-below f s) ∙ ap (λ (y : ℤ). ltZ y (pos s)) (sym z) ∙ a5 .0);
         to = le?-sound (suc s) (w .upper) (a6 .0);
         over-fits = le?-sound (w .over) e (a7 .0);
         under-fits = le?-sound (w .under) e (a7 .1);
@@ -86,12 +92,12 @@ module _ (e n s : ℕ) (w : Walked) where
   pub boundaries-hold : (f : ℕ) → Between e n s f w → boundariesSound e n s w ≡ true
   unfolding boundariesSound
   boundaries-hold f b =
-      let d : pos (w .upper) -ℤ w .lower ≡ pos (suc (w .upper - f)) = ap (λ (y : ℤ). pos (w .upper) -ℤ y) (b .signed) ∙ apart-below (w .upper) f (omega (arith, b .order)) in
+      let d : pos (w .upper) -ℤ w .lower ≡ pos (suc (w .upper - f)) = apart f (b .signed) (omega (arith, b .order)) in
       cc (
         ap (leZ (negsuc 0)) (b .signed) ∙ below-least f,
         le?-complete (w .upper) (suc n) (b .top),
         ap (leZ (pos 2)) d ∙ le-leb 2 (suc (w .upper - f)) (omega (arith, b .order)),
-        ap (λ (y : ℤ). leZ y (pos 770)) d ∙ le-leb (suc (w .upper - f)) 770 (omega (arith, b .fits)),
+        ap (λ (y : ℤ). leZ y (pos (suc wide))) d ∙ le-leb (suc (w .upper - f)) (suc wide) (omega (arith, b .fits)),
         ap (λ (y : ℤ). ltZ y (pos s)) (b .signed) ∙ over-below f s ∙ le?-complete f s (b .from),
         le?-complete (suc s) (w .upper) (b .to),
         le?-complete (w .over) e (b .over-fits),
@@ -100,18 +106,16 @@ module _ (e n s : ℕ) (w : Walked) where
 
 -- ---- refusal 11, of words of the right number
 
--- what it leaves: the record and the words hold a row that is sound after n steps, fits its words, and has s among its live counts
-pub record Checked (E : ℕ → ℕ) (n s : ℕ) (w : Walked) (words : List ℕ) : Type 0 where
+-- what it leaves: the record and the words hold a row that is sound after n steps and fits its words
+pub record Checked (E : ℕ → ℕ) (n : ℕ) (w : Walked) (words : List ℕ) : Type 0 where
   pub signed : w .lower ≡ below (firstAbove (w .lower))
   pub upper-is : w .upper ≡ upper (rowOf w words)
   pub fits : length (rowOf w words .masses) ≤ wide
-  pub from : rowOf w words .first ≤ s
-  pub to : s < upper (rowOf w words)
   pub small : allUpTo massLimit (rowOf w words .masses) ≡ true
   pub sound : SoundAt E n (rowOf w words)
 
 module _ (E : ℕ → ℕ) (n s : ℕ) (w : Walked) (words : List ℕ) (size : length words ≡ wide) where
-  pub checked : isSound (E n) n s w words ≡ true → Checked E n s w words
+  pub checked : isSound (E n) n s w words ≡ true → Checked E n w words
   unfolding isSound rowOf wide
   checked h =
       let a1 = and-true (boundariesSound (E n) n s w) _ h in
@@ -123,8 +127,6 @@ module _ (E : ℕ → ℕ) (n s : ℕ) (w : Walked) (words : List ℕ) (size : l
         signed = b .signed;
         upper-is = omega (arith, b .order);
         fits = omega (arith, b .fits);
-        from = b .from;
-        to = omega (arith, b .to, b .order);
         small = a2 .0;
         sound = record {
           sound = record { live = omega (arith, b .order); over-fits = b .over-fits; under-fits = b .under-fits; full = le?-sound M _ (a2 .1) };
@@ -140,10 +142,7 @@ module _ (E : ℕ → ℕ) (n s : ℕ) (w : Walked) (words : List ℕ) (size : l
       λ i. record { lower = sym (c .signed) i; upper = sym (c .upper-is) i; over = w .over; under = w .under }
 
   pub narrow : isSound (E n) n s w words ≡ true → isWide w ≡ false → length (rowOf w words .masses) < wide
-  unfolding wide
-  narrow h thin =
-      let d = eqb-false (suc (length (rowOf w words .masses))) 770 (sym (wide-record (rowOf w words)) ∙ ap isWide (record-back h) ∙ thin) in
-      omega (arith, checked h .fits, d)
+  narrow h thin = omega (arith, checked h .fits, narrow-record (rowOf w words) .0 (ap isWide (record-back h) ∙ thin))
 
   -- what a step asks, of a record that is not wide
   pub steppable : (a : ℕ) → a ≤ million → IsSpending E → n ≤ horizonLimit → isWide w ≡ false → isSound (E n) n s w words ≡ true

@@ -106,7 +106,8 @@ module _ (e over taken : ℕ) (cs : List ℕ) (i : ℕ) (is : taken ≡ over + s
     where
       go : Keeps e over cs (kept e over cs) → i ≡ kept e over cs
       go k = le-antisymm
-          (not-less (λ (q : kept e over cs < i). omega (arith, k .fits, stop (omega arith), kept-more (omega arith), sum-drop-falls cs (kept e over cs) (i - 1) (omega arith))))
+          (not-less (λ (q : kept e over cs < i).
+          omega (arith, k .fits, stop (omega arith), kept-more (omega arith), sum-drop-falls cs (kept e over cs) (i - 1) (omega arith))))
           (not-less (λ (q : i < kept e over cs). omega (arith, k .least i q)))
 
 -- ---- find_lower at i: the masses before i fit, and with one more they do not
@@ -124,7 +125,8 @@ module _ (e under taken : ℕ) (cs : List ℕ) (i : ℕ) (is : taken ≡ under +
       go : Drops e under cs (dropped e under cs) → i ≡ dropped e under cs
       go d = le-antisymm
           (not-less (λ (q : dropped e under cs < i). omega (arith, d .most (omega arith), rises (suc (dropped e under cs)) i q)))
-          (not-less (λ (q : i < dropped e under cs). omega (arith, d .fits, d .within, stop (omega (arith, d .within)), sum-take-suc cs i, rises (suc i) (dropped e under cs) q)))
+          (not-less (λ (q : i < dropped e under cs).
+          omega (arith, d .fits, d .within, stop (omega (arith, d .within)), sum-take-suc cs i, rises (suc i) (dropped e under cs) q)))
 
 -- ---- all_fit at i: f says whether the words so far fit
 

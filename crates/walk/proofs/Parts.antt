@@ -86,7 +86,8 @@ module _ {a e : ℕ} {w : Walked} {words : List ℕ} (s : Steppable a e w words)
   first-is p = p ∙ ap firstAbove lower-back
 
   -- the words after `spread`: the cells stand in front
-  module _ (f : ℕ) (f-is : f ≡ firstAbove (w .lower)) (p1 : List ℕ) (spreads : p1 ≡ newMasses a (take (w .upper - f) words) ++ drop (w .upper - f + 1) words) where
+  module _ (f : ℕ) (f-is : f ≡ firstAbove (w .lower)) (p1 : List ℕ)
+      (spreads : p1 ≡ newMasses a (take (w .upper - f) words) ++ drop (w .upper - f + 1) words) where
     pub front : take (w .upper - f + 1) p1 ≡ cells
     unfolding rowOf
     front =
@@ -109,8 +110,8 @@ module _ {a e : ℕ} {w : Walked} {words : List ℕ} (s : Steppable a e w words)
       pub places-fit : (c .hi ≤ wide) × (c .lo ≤ wide)
       unfolding rowOf
       places-fit =
-          let h : c .hi ≤ wide =
-          omega (arith, trims-cells .0, keep a (s .threshold) e (s .half) row (s .sound) .within, cells-length (massUp a) 0 (row .masses), row-length, s .narrow) in
+          let k = keep a (s .threshold) e (s .half) row (s .sound) in
+          let h : c .hi ≤ wide = omega (arith, trims-cells .0, k .within, cells-length (massUp a) 0 (row .masses), row-length, s .narrow) in
           (h, omega (arith, trims-cells .0, trims-cells .1, apart a (s .threshold) e (s .half) row (s .sound)))
 
       pub stepped : (low : ℤ) → low ≡ below (firstAbove (toZ w32 (ofZ w32 (w .lower))) + c .lo)

@@ -73,7 +73,12 @@ module _ (a : ℕ) (threshold : a ≤ million) (e : ℕ) (half : e + e < M) (r :
   step-small b h = all-take b (drop d cells) (k - d) (all-drop b cells d (cells-small a threshold b (r .masses) h))
 
   pub step-sound : Sound e (stepRow a e r)
-  step-sound = record { live = omega (arith, step-length, apart); over-fits = step-over; under-fits = step-under; full = omega (arith, step-total, cells-full) }
+  step-sound = record {
+    live = omega (arith, step-length, apart);
+    over-fits = step-over;
+    under-fits = step-under;
+    full = omega (arith, step-total, cells-full);
+  }
 
   pub step-moves : Moves a r (stepRow a e r)
   step-moves = record {

@@ -12,7 +12,7 @@ use lib.Signed.{leZ}
 use Rattle.walk.specs.Numbers.{le?, lt?, eqZ?}
 use Rattle.walk.specs.Units.{M, million, wide}
 use Rattle.walk.specs.Spending.{IsSpending}
-use Rattle.walk.specs.Walk.{Walk, below, lower, walk, firstAt, upperAt, NoWideBefore}
+use Rattle.walk.specs.Walk.{Walk, below, lower, firstAt, upperAt, wide?, NoWideBefore}
 use Rattle.walk.specs.Row.{Row, upper, startRow, stepRow, rows}
 use Rattle.walk.specs.Strings.{Draws, ones, Side, Upper, Lower, Reaches, judged, verdict, orElse, mark, settled, isOpen}
 use Rattle.walk.specs.Record.{recordOf, isWide, padded}
@@ -34,7 +34,7 @@ start-words = refl
 
 -- step 0 is not wide
 pub start-not-wide : isWide (recordOf startRow) ≡ false
-unfolding isWide recordOf startRow below eqZ?
+unfolding isWide wide? wide recordOf startRow below eqZ?
 start-not-wide = refl
 
 -- words after the live counts are zero
@@ -118,11 +118,14 @@ module _ (a : ℕ) (E : ℕ → ℕ) where
     verdict-record t S = judged-same (same a threshold E spends t) t S
 
     -- an open mark: the ones lie strictly between the boundaries
-    inside : (t S : ℕ) → verdictOf t S ≡ Open → (rows a E t .first ≤ S) × (S < upper (rows a E t))
+    abbrev Inside : ℕ → ℕ → Type 0
+    Inside t S = (rows a E t .first ≤ S) × (S < upper (rows a E t))
+
+    inside : (t S : ℕ) → verdictOf t S ≡ Open → Inside t S
     inside t S e =
         go (test (upper (rows a E t)) S) (test (suc S) (rows a E t .first)) (sym (verdict-row t S) ∙ e)
       where
-        go : {o u : Bool} → Le? (upper (rows a E t)) S o → Le? (suc S) (rows a E t .first) u → judged t o u ≡ Open → (rows a E t .first ≤ S) × (S < upper (rows a E t))
+        go : {o u : Bool} → Le? (upper (rows a E t)) S o → Le? (suc S) (rows a E t .first) u → judged t o u ≡ Open → Inside t S
         go (le h) k e = let z : true ≡ false = cc (ap isOpen e) in clash z
         go (gt h) (le k) e = let z : true ≡ false = cc (ap isOpen e) in clash z
         go (gt h) (gt k) e = (omega arith, h)
@@ -132,7 +135,7 @@ module _ (a : ℕ) (E : ℕ → ℕ) where
     open-inside [] e = rw (rows-zero) (omega arith, omega arith)
     open-inside (b ∷ s) e = go (markOf s) (sym (mark-cons b s) ∙ e)
       where
-        go : (m : Mark) → orElse m (verdictOf (suc (length s)) (ones (b ∷ s))) ≡ Open → (rows a E (suc (length s)) .first ≤ ones (b ∷ s)) × (ones (b ∷ s) < upper (rows a E (suc (length s))))
+        go : (m : Mark) → orElse m (verdictOf (suc (length s)) (ones (b ∷ s))) ≡ Open → Inside (suc (length s)) (ones (b ∷ s))
         go Open f = inside (suc (length s)) (ones (b ∷ s)) f
         go (Above t) f = let z : true ≡ false = cc (ap isOpen f) in clash z
         go (AtMost t) f = let z : true ≡ false = cc (ap isOpen f) in clash z

@@ -2,8 +2,9 @@
 use mathlib.Core.Path.{_≡_, refl, sym, _∙_}
 use mathlib.Core.Logic.{_⊎_, inl, inr}
 use mathlib.Core.Bool.{Bool, true, false}
-use Prim.Native.Nat.{ℕ, zero, suc, _+_, _≤_, _<_}
+use Prim.Native.Nat.{ℕ, zero, suc, _+_, _-_, _≤_, _<_}
 use native.Mathlib.Nat.{eq-or-lt-of-le, add-zero, add-suc, suc-add}
+use native.Mathlib.Numerals.{add-one}
 use native.Mathlib.Omega.{arith}
 use Rattle.walk.specs.Numbers.{le?, choose, Smallest, Largest, searchUp, searchDown}
 use Rattle.walk.proofs.Tests.{clash, le?-sound, le?-complete}
@@ -13,6 +14,36 @@ smallest-only {i} {j} s t = omega (arith, s .first j (t .from) (t .to) (t .holds
 
 pub largest-only : {P : ℕ → Type 0} {lo hi i j : ℕ} → Largest P lo hi i → Largest P lo hi j → i ≡ j
 largest-only {i} {j} s t = omega (arith, s .last j (t .from) (t .to) (t .holds), t .last i (s .from) (s .to) (s .holds))
+
+-- ---- a search upward from j
+
+-- it finds the first that passes
+pub search-only : (n j r : ℕ) (test : ℕ → Bool) → j ≤ r → r ≤ j + n → (r < j + n → test r ≡ true)
+    → ((i : ℕ) → j ≤ i → i < r → test i ≡ false) → searchUp n j test ≡ r
+unfolding searchUp
+search-only zero j r test l h hit miss = omega arith
+search-only (suc n) j r test l h hit miss =
+    go (eq-or-lt-of-le l) (λ k. search-only n (suc j) r test k (omega arith) (λ x. hit (omega arith)) (λ i x y. miss i (omega arith) y))
+  where
+    go : (j ≡ r) ⊎ (j < r) → (j < r → searchUp n (suc j) test ≡ r) → searchUp (suc n) j test ≡ r
+    go (inl e) rest = let t : test j ≡ true = rw e (hit (omega arith)) in rw (t, e)
+    go (inr k) rest = rw (miss j (omega arith) k) (rest k)
+
+-- at place j of n: it stops, or it goes on
+pub search-stops : (n j : ℕ) (test : ℕ → Bool) → (j < n → test j ≡ true) → searchUp (n - j) j test ≡ j
+search-stops n j test e = search-only (n - j) j j test (omega arith) (omega arith) (λ l. e (omega arith)) (λ i l k. absurd (omega arith))
+
+pub search-more : (n j : ℕ) (test : ℕ → Bool) → j < n → test j ≡ false → searchUp (n - j) j test ≡ searchUp (n - (j + 1)) (j + 1) test
+unfolding searchUp
+search-more n j test l e =
+    let s : n - j ≡ suc (n - suc j) = omega arith in
+    rw (add-one j, s, e)
+
+-- two tests that agree at each place
+pub search-cong : (n j : ℕ) (f g : ℕ → Bool) → ((i : ℕ) → i < j + n → f i ≡ g i) → searchUp n j f ≡ searchUp n j g
+unfolding searchUp
+search-cong zero j f g e = refl
+search-cong (suc n) j f g e = rw (search-cong n (suc j) f g (λ i l. e i (omega arith)), e j (omega arith))
 
 -- a search for the numbers j with f j ≤ e
 module _ (f : ℕ → ℕ) (e : ℕ) where

@@ -1,6 +1,6 @@
 -- Lower boundaries, which are signed: the number below a count, and what the code's casts and tests make of it. Assumes nothing.
 use mathlib.Core.Path.{_≡_, refl, sym, ap, _∙_}
-use mathlib.Core.Bool.{Bool, true, false, not, cond}
+use mathlib.Core.Bool.{Bool, true, false, not, cond, Bool·not-not}
 use Prim.Native.Nat.{ℕ, zero, suc, _+_, _-_, _^_, _≤_, _<_}
 use native.Mathlib.Numerals.{add-one}
 use native.Mathlib.Omega.{arith}
@@ -79,16 +79,12 @@ le-not-lt (pos a) (negsuc b) = refl
 le-not-lt (negsuc a) (pos b) = refl
 le-not-lt (negsuc a) (negsuc b) = leb-not b a
 
-not-not : (b : Bool) → not (not b) ≡ b
-not-not true = refl
-not-not false = refl
-
 module _ {x x′ y y′ : ℤ} (p : x ≡ x′) (q : y ≡ y′) {b : Bool} where
   pub not-less : ltZ x y ≡ b → leZ y′ x′ ≡ not b
   not-less h = le-not-lt y′ x′ ∙ ap not (rw (p, q) at h)
 
   pub not-at-most : leZ x y ≡ b → ltZ y′ x′ ≡ not b
-  not-at-most h = sym (ap not (le-not-lt x′ y′) ∙ not-not (ltZ y′ x′)) ∙ ap not (rw (p, q) at h)
+  not-at-most h = sym (ap not (le-not-lt x′ y′) ∙ Bool·not-not (ltZ y′ x′)) ∙ ap not (rw (p, q) at h)
 
 -- ---- how far an upper boundary lies over a lower one, in 64 bits
 

@@ -49,10 +49,6 @@ pub and-true : (x y : Bool) → (x && y) ≡ true → (x ≡ true) × (y ≡ tru
 and-true true y e = (refl, e)
 and-true false y e = clash (sym e)
 
-pub not-true : (x : Bool) → not x ≡ true → x ≡ false
-not-true true e = sym e
-not-true false e = refl
-
 -- ---- numbers behind a test
 
 pub only-zero : (b : Bool) → only b 0 ≡ 0

@@ -2,11 +2,10 @@
 use mathlib.Core.Bool.{Bool}
 use mathlib.Core.List.{List, _++_}
 use Prim.Native.Nat.{ℕ, suc, _-_}
-use lib.IntN.{ℤ, pos, negsuc, _-ℤ_}
+use lib.IntN.{ℤ, pos, negsuc}
 use lib.ListN.{length, take, replicate}
-use Rattle.walk.specs.Numbers.{eqZ?}
 use Rattle.walk.specs.Units.{wide}
-use Rattle.walk.specs.Walk.{below}
+use Rattle.walk.specs.Walk.{below, wide?}
 use Rattle.walk.specs.Row.{Row, upper}
 use Rattle.walk.specs.declared.Walked.{Walked}
 
@@ -24,13 +23,11 @@ rowOf w words = record {
   under = w .under;
 }
 
--- the record of a row
 unfoldable pub recordOf : Row → Walked
 recordOf r = record { lower = below (r .first); upper = upper r; over = r .over; under = r .under }
 
--- wide: upper - lower - 1 is 769, of any two boundaries
 unfoldable pub isWide : Walked → Bool
-isWide w = eqZ? (pos (w .upper) -ℤ w .lower) (pos 770)
+isWide w = wide? (w .upper) (w .lower)
 
 -- the words of a row: words after the live counts are zero
 unfoldable pub padded : List ℕ → List ℕ

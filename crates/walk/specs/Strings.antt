@@ -11,6 +11,7 @@ use Rattle.walk.specs.declared.Mark.the-variants.{Open, Above, AtMost}
 abbrev pub Draws : Type 0
 Draws = List Bool
 
+-- the ones among them (01: S)
 abbrev pub ones : Draws → ℕ
 ones [] = 0
 ones (true ∷ s) = suc (ones s)

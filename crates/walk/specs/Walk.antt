@@ -1,10 +1,9 @@
 -- The walk of one threshold a, as 01 has it: masses by count, boundaries by search. (01: bars; here boundaries.)
 use mathlib.Core.Path.{_≡_}
-use mathlib.Core.Bool.{Bool, true, not, _&&_}
+use mathlib.Core.Bool.{Bool, true, false, not, _&&_}
 use Prim.Native.Nat.{ℕ, zero, suc, _+_, _≤_, _<_}
-use lib.Dec.{eqb}
-use lib.IntN.{ℤ, pos, negsuc}
-use Rattle.walk.specs.Numbers.{le?, lt?, between, only, sumTo, searchUp, searchDown}
+use lib.IntN.{ℤ, pos, negsuc, _-ℤ_}
+use Rattle.walk.specs.Numbers.{le?, lt?, eqZ?, between, only, sumTo, searchUp, searchDown}
 use Rattle.walk.specs.Units.{M, wide}
 use Rattle.walk.specs.Mass.{massUp}
 
@@ -22,7 +21,7 @@ pub record Walk : Type 0 where
   pub over : ℕ
   pub under : ℕ
 
--- the lower boundary
+-- (01: lower bar)
 unfoldable pub lower : Walk → ℤ
 lower w = below (w .first)
 
@@ -51,14 +50,14 @@ massFrom t g j = sumTo (suc t) (λ c. only (le? j c) (g c))
 unfoldable pub massBelow : ℕ → (ℕ → ℕ) → ℕ → ℕ
 massBelow t g f = sumTo (suc t) (λ c. only (lt? c f) (g c))
 
--- rule 2, with e = E(t), the new masses g and the upper spent mass: j may be the upper boundary; the smallest such j from 1 to t + 1
+-- rule 2, with e = E(t), the new masses g and the upper spent mass: j may be the upper boundary (01: upper bar); the smallest such j from 1 to t + 1
 abbrev pub FitsUpper : ℕ → ℕ → (ℕ → ℕ) → ℕ → ℕ → Type 0
 FitsUpper t e g over j = massFrom t g j + over ≤ e
 
 unfoldable pub upperBoundary : ℕ → ℕ → (ℕ → ℕ) → ℕ → ℕ
 upperBoundary t e g over = searchUp t 1 (λ j. le? (massFrom t g j + over) e)
 
--- rule 3: f - 1 may be the lower boundary; the largest such f - 1 from -1 to t
+-- rule 3: f - 1 may be the lower boundary (01: lower bar); the largest such f - 1 from -1 to t
 abbrev pub FitsLower : ℕ → ℕ → (ℕ → ℕ) → ℕ → ℕ → Type 0
 FitsLower t e g under f = massBelow t g f + under ≤ e
 
@@ -95,15 +94,15 @@ firstAt a E n = walk a E n .first
 unfoldable pub upperAt : ℕ → (ℕ → ℕ) → ℕ → ℕ
 upperAt a E n = walk a E n .upper
 
--- wide: upper - lower - 1 is 769
-abbrev pub Wide : Walk → Type 0
-Wide w = w .upper ≡ w .first + wide
+-- wide, of any two boundaries: upper - lower - 1 is 769
+unfoldable pub wide? : ℕ → ℤ → Bool
+wide? upper lower = eqZ? (pos upper -ℤ lower) (pos (suc wide))
 
 -- no step before n is wide: n is not past the first wide step
 unfoldable pub NoWideBefore : ℕ → (ℕ → ℕ) → ℕ → Type 0
-NoWideBefore a E n = (t : ℕ) → t < n → ¬ (Wide (walk a E t))
+NoWideBefore a E n = (t : ℕ) → t < n → wide? (walk a E t .upper) (lower (walk a E t)) ≡ false
 
 -- the same as a test that computes (proofs/Chances, `narrow-says`)
 unfoldable pub noWideBefore? : ℕ → (ℕ → ℕ) → ℕ → Bool
 noWideBefore? a E zero = true
-noWideBefore? a E (suc n) = noWideBefore? a E n && not (eqb (walk a E n .upper) (walk a E n .first + wide))
+noWideBefore? a E (suc n) = noWideBefore? a E n && not (wide? (walk a E n .upper) (lower (walk a E n)))

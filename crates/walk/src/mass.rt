@@ -6,8 +6,8 @@ ghost use Rattle.walk.specs.Units.{million, massLimit};
 ghost use Rattle.walk.specs.Mass.{massUp};
 
 // The mass that stays at a count with each draw 0 and the mass that comes from the count before with each draw 1: their sum is rounded
-// up once, so that no mass is lost. For this crate only, whose live words are at most 2^43.
-pub fn mass_up(a: u32, stay: u64, come: u64) -> u64
+// up once, so that no mass is lost. Live words are at most 2^43.
+pub(crate) fn mass_up(a: u32, stay: u64, come: u64) -> u64
     requires { ⌜ (a ≤ million) × (stay ≤ massLimit) × (come ≤ massLimit) ⌝ }
     ensures { λ r. ⌜ r ≡ massUp a stay come ⌝ }
 {

@@ -12,21 +12,21 @@ ghost use Rattle.walk.specs.Row.{newMasses, kept, dropped};
 ghost use Rattle.walk.specs.Record.{padded};
 
 // Where a boundary lies among the new masses, and the spent mass of its side then.
-pub struct Edge {
+struct Edge {
     pub at: usize,
     pub spent: u64,
 }
 
 // Where the new masses are cut at both ends, and both spent masses then.
-pub struct Cut {
+pub(crate) struct Cut {
     pub hi: usize,
     pub lo: usize,
     pub over: u64,
     pub under: u64,
 }
 
-// Rule 1, in place: n live masses become n + 1 new ones. For this crate only, as is every function here: `step` keeps what they require.
-pub fn spread(part: &mut [u64], n: usize, a: u32)
+// Rule 1, in place: n live masses become n + 1 new ones. `step` keeps what it and the others here require.
+pub(crate) fn spread(part: &mut [u64], n: usize, a: u32)
     requires { ⌜ (n < length (now part)) × (a ≤ million) × (allUpTo massLimit (take n (now part)) ≡ true) ⌝ }
     ensures { λ r. ⌜ now (part .exit) ≡ newMasses a (take n (now (part .entry))) ++ drop (n + 1) (now (part .entry)) ⌝ }
 {
@@ -44,7 +44,7 @@ pub fn spread(part: &mut [u64], n: usize, a: u32)
 }
 
 // Rule 2: masses are taken off the top while they and the upper spent mass are at most e.
-pub fn find_upper(cs: &[u64], spent: u64, e: u64) -> Edge
+fn find_upper(cs: &[u64], spent: u64, e: u64) -> Edge
     requires { ⌜ spent ≤ e ⌝ }
     ensures { λ r. ⌜ (r .at ≡ kept e spent (now (cs .entry))) × (r .spent ≡ spent + sum (drop (r .at) (now (cs .entry)))) ⌝ }
 {
@@ -68,7 +68,7 @@ pub fn find_upper(cs: &[u64], spent: u64, e: u64) -> Edge
 }
 
 // Rule 3: masses are taken off the bottom while they and the lower spent mass are at most e.
-pub fn find_lower(cs: &[u64], spent: u64, e: u64) -> Edge
+fn find_lower(cs: &[u64], spent: u64, e: u64) -> Edge
     requires { ⌜ spent ≤ e ⌝ }
     ensures { λ r. ⌜ (r .at ≡ dropped e spent (now (cs .entry))) × (r .spent ≡ spent + sum (take (r .at) (now (cs .entry)))) ⌝ }
 {
@@ -92,7 +92,7 @@ pub fn find_lower(cs: &[u64], spent: u64, e: u64) -> Edge
 }
 
 // The k words from lo on go to the front; most steps leave the lower boundary where it is, and copy nothing.
-pub fn shift_down(part: &mut [u64], lo: usize, k: usize)
+fn shift_down(part: &mut [u64], lo: usize, k: usize)
     requires { ⌜ lo + k ≤ length (now part) ⌝ }
     ensures { λ r. ⌜ now (part .exit) ≡ take k (drop lo (now (part .entry))) ++ drop k (now (part .entry)) ⌝ }
 {
@@ -108,7 +108,7 @@ pub fn shift_down(part: &mut [u64], lo: usize, k: usize)
 }
 
 // Every word from k on becomes zero (01, "Words lent to a test").
-pub fn clear_from(part: &mut [u64], k: usize)
+fn clear_from(part: &mut [u64], k: usize)
     requires { ⌜ k ≤ length (now part) ⌝ }
     ensures { λ r. ⌜ now (part .exit) ≡ take k (now (part .entry)) ++ replicate (length (now (part .entry)) - k) 0 ⌝ }
 {
@@ -120,7 +120,7 @@ pub fn clear_from(part: &mut [u64], k: usize)
 }
 
 // Rules 2 to 4 on the first m words: what lies between the boundaries moves to the front, and zeros follow.
-pub fn trim(part: &mut [u64], m: usize, over: u64, under: u64, e: u64) -> Cut
+pub(crate) fn trim(part: &mut [u64], m: usize, over: u64, under: u64, e: u64) -> Cut
     requires { ⌜ (length (now part) ≡ wide) × (m ≤ wide) × (over ≤ e) × (under ≤ e) × (e + e < sum (take m (now part)) + over + under) ⌝ }
     ensures { λ r. ⌜
         (r .hi ≡ kept e over (take m (now (part .entry))))

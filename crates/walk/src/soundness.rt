@@ -55,7 +55,7 @@ fn all_fit(words: &[u64]) -> bool
     seen < 17592186044416
 }
 
-// The words' sum. For this crate only: so many words that fit cannot overflow.
+// The words' sum: so many words that fit cannot overflow.
 fn sum_up(words: &[u64]) -> u64
     requires { ⌜ (length (now words) ≤ wide) × (allUpTo massLimit (now words) ≡ true) ⌝ }
     ensures { λ r. ⌜ r ≡ sum (now (words .entry)) ⌝ }
@@ -83,7 +83,7 @@ fn is_whole(live: u64, over: u64, under: u64) -> bool
     under >= missing - over
 }
 
-// How many words are live: one for each live count, or those that are there. For this crate only.
+// How many words are live: one for each live count, or those that are there.
 fn live_words(w: Walked, len: usize) -> usize
     requires { ⌜ (w .lower ≡ below (firstAbove (w .lower))) × (firstAbove (w .lower) ≤ w .upper) ⌝ }
     ensures { λ r. ⌜ r ≡ choose (le? (w .upper - firstAbove (w .lower)) len) (w .upper - firstAbove (w .lower)) len ⌝ }

@@ -11,7 +11,7 @@ ghost use Rattle.walk.specs.Row.{stepRow};
 ghost use Rattle.walk.specs.Record.{firstAbove, rowOf, recordOf, padded};
 ghost use Rattle.walk.specs.Soundness.{Steppable};
 
-// The first live count: the lower boundary plus one. For this crate only.
+// The first live count: the lower boundary plus one.
 fn first_live(lower: i32) -> u32
     requires { ⌜ (lower ≡ below (firstAbove lower)) × (firstAbove lower ≤ suc horizonLimit) ⌝ }
     ensures { λ r. ⌜ r ≡ firstAbove lower ⌝ }
@@ -19,7 +19,7 @@ fn first_live(lower: i32) -> u32
     (lower + 1) as u32
 }
 
-// The lower boundary after a step that drops so many counts. For this crate only.
+// The lower boundary after a step that drops so many counts.
 fn raised(lower: i32, by: usize) -> i32
     requires { ⌜ (lower ≡ below (firstAbove lower)) × (firstAbove lower ≤ suc horizonLimit) × (by ≤ wide) ⌝ }
     ensures { λ r. ⌜ r ≡ below (firstAbove lower + by) ⌝ }

@@ -9,7 +9,7 @@ interval-of-requires : tie.Need-interval-of-requires
 interval-of-requires c κs = search needs
 
 returns : tie.Need-returns
-returns c = crossed (c .before .before .before .args .p) (c .before .before .before .args .s) (c .before .before .interval-of .result .low) (c .before .before .interval-of .result .high) (c .before .before .interval-of .ensures .0) (c .before .before .interval-of .ensures .1) (c .if1 .taken)
+returns c = let v = c .before .before .interval-of .ensures in crossed _ _ _ _ (v .0) (v .1) (c .if1 .taken)
 
 first-bucket-requires : tie.Need-first-bucket-requires
 first-bucket-requires c κs = search needs
@@ -18,24 +18,36 @@ add-t6 : tie.Need-add-t6
 add-t6 c = search needs
 
 returns-2 : tie.Need-returns-2
-returns-2 c = decided (c .before .before .before .before .before .before .args .p) (c .before .before .before .before .before .before .args .s) (c .before .before .before .before .before .interval-of .result .low) (c .before .before .before .before .before .interval-of .result .high) (c .before .before .before .before .before .interval-of .ensures .0) (c .before .before .before .before .before .interval-of .ensures .1) (c .before .before .before .if1 .left) (c .before .before .first-bucket .result) (c .before .before .first-bucket .ensures) (c .if2 .taken)
+returns-2 c =
+    let b = c .before .before in
+    let v = b .before .before .before .interval-of .ensures in
+    decided _ _ _ _ (v .0) (v .1) (b .before .if1 .left) _ (b .first-bucket .ensures) (c .if2 .taken)
 
 any-wide-requires : tie.Need-any-wide-requires
 any-wide-requires c κs = search needs
 
 returns-3 : tie.Need-returns-3
 returns-3 c =
-    wide (c .before .before .before .before .before .before .before .before .args .p) (c .before .before .before .before .before .before .before .before .args .s) (c .before .before .before .before .before .before .before .interval-of .result .low) (c .before .before .before .before .before .before .before .interval-of .result .high) (c .before .before .before .before .before .before .before .interval-of .ensures .0) (c .before .before .before .before .before .before .before .interval-of .ensures .1) (c .before .before .before .before .before .if1 .left) (c .before .before .before .before .first-bucket .result) (c .before .before .before .before .first-bucket .ensures) (c .before .before .if2 .left) (sym (c .if3 .taken) ∙ c .before .any-wide .ensures)
+    let b = c .before .before .before .before in
+    let v = b .before .before .before .interval-of .ensures in
+    wide _ _ _ _ (v .0) (v .1) (b .before .if1 .left) _ (b .first-bucket .ensures) (c .before .before .if2 .left)
+    (sym (c .if3 .taken) ∙ c .before .any-wide .ensures)
 
 returns-4 : tie.Need-returns-4
 returns-4 c =
-    spent (c .before .before .before .before .before .before .before .before .before .before .before .args .p) (c .before .before .before .before .before .before .before .before .before .before .before .args .s) (c .before .before .before .before .before .before .before .before .before .before .interval-of .result .low) (c .before .before .before .before .before .before .before .before .before .before .interval-of .result .high) (c .before .before .before .before .before .before .before .before .before .before .interval-of .ensures .0) (c .before .before .before .before .before .before .before .before .before .before .interval-of .ensures .1) (c .before .before .before .before .before .before .before .before .if1 .left) (c .before .before .before .before .before .before .before .first-bucket .result) (c .before .before .before .before .before .before .before .first-bucket .ensures) (c .before .before .before .before .before .if2 .left)
-    (sym (c .before .before .before .if3 .left) ∙ c .before .before .before .before .any-wide .ensures) (c .if4 .taken)
+    let w = c .before .before .before .before in
+    let b = w .before .before .before in
+    let v = b .before .before .before .interval-of .ensures in
+    spent _ _ _ _ (v .0) (v .1) (b .before .if1 .left) _ (b .first-bucket .ensures) (w .before .if2 .left)
+    (sym (c .before .before .before .if3 .left) ∙ w .any-wide .ensures) (c .if4 .taken)
 
 returns-5 : tie.Need-returns-5
 returns-5 c =
-    open-yet (c .before .before .before .before .before .before .before .before .before .before .before .args .p) (c .before .before .before .before .before .before .before .before .before .before .before .args .s) (c .before .before .before .before .before .before .before .before .before .before .interval-of .result .low) (c .before .before .before .before .before .before .before .before .before .before .interval-of .result .high) (c .before .before .before .before .before .before .before .before .before .before .interval-of .ensures .0) (c .before .before .before .before .before .before .before .before .before .before .interval-of .ensures .1) (c .before .before .before .before .before .before .before .before .if1 .left) (c .before .before .before .before .before .before .before .first-bucket .result) (c .before .before .before .before .before .before .before .first-bucket .ensures) (c .before .before .before .before .before .if2 .left)
-    (sym (c .before .before .before .if3 .left) ∙ c .before .before .before .before .any-wide .ensures) (c .if4 .left)
+    let w = c .before .before .before .before in
+    let b = w .before .before .before in
+    let v = b .before .before .before .interval-of .ensures in
+    open-yet _ _ _ _ (v .0) (v .1) (b .before .if1 .left) _ (b .first-bucket .ensures) (w .before .if2 .left)
+    (sym (c .before .before .before .if3 .left) ∙ w .any-wide .ensures) (c .if4 .left)
 
 pub answer-of-spec : {M : Type 1} → statement M
 answer-of-spec =

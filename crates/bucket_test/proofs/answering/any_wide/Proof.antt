@@ -1,15 +1,13 @@
 -- Of the first i open thresholds none is wide.
 use mathlib.Core.Path.{_≡_, refl, sym, _∙_}
-use mathlib.Core.Bool.{Bool, false, _&&_}
+use mathlib.Core.Bool.{Bool, false}
 use mathlib.Core.List.{List}
 use Prim.Native.Nat.{ℕ, _-_, _≤_}
 use native.Mathlib.Omega.{arith}
 use borrow.Author.Needs.{needs}
 use lib.ListN.{getD}
-use Rattle.walk.specs.Strings.{isOpen}
-use Rattle.walk.specs.Record.{isWide}
 use Rattle.bucket_test.specs.Tests.{anyTo}
-use Rattle.bucket_test.specs.Turn.{noRecord}
+use Rattle.bucket_test.specs.Turn.{noRecord, wideOpen}
 use Rattle.bucket_test.specs.Answers.{anyWide}
 use Rattle.bucket_test.specs.declared.Threshold.{Threshold}
 use Rattle.bucket_test.proofs.PlaceLaws.{any-holds, any-next, any-done}
@@ -17,7 +15,7 @@ use Rattle.bucket_test.proofs.answering.any_wide.Statement.{statement}
 use Rattle.bucket_test.proofs.answering.any_wide.Tie as tie
 
 abbrev wideAt : List Threshold → ℕ → Bool
-wideAt records k = isOpen (getD records k noRecord .mark) && isWide (getD records k noRecord .walked)
+wideAt records k = wideOpen (getD records k noRecord)
 
 abbrev Inv-loop : tie.InvT-loop
 Inv-loop count records i₀ i = (i ≤ count) × (anyTo i (wideAt records) ≡ false)

@@ -9,7 +9,7 @@ use borrow.Author.Needs.{needs}
 use lib.ListN.{getD}
 use Rattle.walk.specs.Numbers.{le?, searchUp}
 use Rattle.bucket_test.specs.Answers.{contains, firstBucket}
-use Rattle.bucket_test.proofs.AnsweringLaws.{search-here, search-more, search-end}
+use Rattle.walk.proofs.Searches.{search-stops, search-more}
 use Rattle.bucket_test.proofs.answering.first_bucket.Statement.{statement}
 use Rattle.bucket_test.proofs.answering.first_bucket.Tie as tie
 
@@ -49,7 +49,8 @@ unfolding firstBucket contains
 returns c =
     let k = c .before .before .before .before .before .before .args in
     let l = c .before .before .before .loop in
-    sym (search-here (k .p .buckets) (l .j) (holding (k .p .left) (k .p .right) (k .low) (k .high)) (omega arith) (sym (c .before .holds-interval .ensures) ∙ c .if1 .taken)) ∙ l .inv .1
+    sym (search-stops _ (l .j) (holding (k .p .left) (k .p .right) (k .low) (k .high)) (λ h. sym (c .before .holds-interval .ensures) ∙ c .if1 .taken))
+    ∙ l .inv .1
 
 add-j : tie.Need-add-j Inv-loop μ-loop
 add-j c = omega (arith, c .before .before .before .before .before .before .pre)
@@ -62,7 +63,10 @@ loop-again c =
     let k = c .before .before .before .before .before .before .args in
     let l = c .before .before .before .loop in (
       omega arith,
-      sym (search-more (k .p .buckets) (l .j) (holding (k .p .left) (k .p .right) (k .low) (k .high)) (omega arith) (sym (c .before .holds-interval .ensures) ∙ c .if1 .left)) ∙ l .inv .1,
+      sym
+          (search-more _ (l .j) (holding (k .p .left) (k .p .right) (k .low) (k .high)) (c .before .before .loop-test .taken)
+          (sym (c .before .holds-interval .ensures) ∙ c .if1 .left))
+          ∙ l .inv .1,
     )
 
 returns-2 : tie.Need-returns-2 Inv-loop μ-loop
@@ -70,7 +74,7 @@ unfolding firstBucket contains
 returns-2 c =
     let k = c .before .before .before .before .args in
     let l = c .before .loop in
-    sym (search-end (k .p .buckets) (l .j) (holding (k .p .left) (k .p .right) (k .low) (k .high)) (omega arith)) ∙ l .inv .1
+    sym (search-stops (k .p .buckets) (l .j) (holding (k .p .left) (k .p .right) (k .low) (k .high)) (λ h. absurd (omega arith))) ∙ l .inv .1
 
 pub first-bucket-spec : {M : Type 1} → statement M
 first-bucket-spec =

@@ -76,8 +76,10 @@ unfolding lowOf highOf
 returns c =
     let k = c .before .before .before .before .before .args in
     let l = c .before .loop in
-    let n : l .i ≡ k .p .count = omega arith in
-    (l .inv .1 ∙ ap (λ (j : ℕ). largestTo j (aboveAt (k .p .thresholds) (k .s .records)) 0) n, l .inv .2 ∙ ap (λ (j : ℕ). smallestTo j (atMostAt (k .p .thresholds) (k .s .records)) million) n)
+    let n : l .i ≡ k .p .count = omega arith in (
+      l .inv .1 ∙ ap (λ (j : ℕ). largestTo j (aboveAt (k .p .thresholds) (k .s .records)) 0) n,
+      l .inv .2 ∙ ap (λ (j : ℕ). smallestTo j (atMostAt (k .p .thresholds) (k .s .records)) million) n,
+    )
 
 pub interval-of-spec : {M : Type 1} → statement M
 interval-of-spec =

@@ -5,8 +5,10 @@ use native.Mathlib.Omega.{arith}
 use lib.ListN.{length}
 use Rattle.walk.specs.Units.{wide}
 use Rattle.bucket_test.specs.Plan.{planRefusal}
-use Rattle.bucket_test.specs.Draw.{startWords}
-use Rattle.bucket_test.proofs.DrawingLaws.{places, hands, words-fit, words-do-not, begun-plan, begun-8, begun-0}
+use Rattle.bucket_test.specs.Turn.{startRecord}
+use Rattle.bucket_test.specs.Draw.{startState, startWords, noState}
+use Rattle.bucket_test.proofs.PlaceLists.{words-say}
+use Rattle.bucket_test.proofs.DrawingLaws.{places, hands, words-do-not, begun-plan, begun-8, begun-0}
 use borrow.Author.Needs.{needs}
 use Rattle.bucket_test.proofs.drawing.begin.Statement.{statement}
 use Rattle.bucket_test.proofs.drawing.begin.Tie as tie
@@ -15,23 +17,24 @@ use Rattle.bucket_test.proofs.drawing.begin.Tie as tie
 good : (c : tie.Else1) → planRefusal (c .before .before .before .args .p) ≡ 0
 good c = omega (arith, c .before .plan-refusal .ensures)
 
-long : (c : tie.Else2) → length (c .before .before .before .before .before .args .words .now) ≡ wide * c .before .before .before .before .before .args .p .count
+long : (c : tie.Else2) → let a = c .before .before .before .before .before .args in length (a .words .now) ≡ wide * a .p .count
 unfolding wide
 long c = c .if2 .left
 
 plan-refusal-requires : tie.Need-plan-refusal-requires
 plan-refusal-requires c κs = search needs
 
-no-state-requires : tie.Need-no-state-requires
-no-state-requires c κs = search needs
+open-state-requires : tie.Need-open-state-requires
+open-state-requires c κs = search needs
 
 refused-requires : tie.Need-refused-requires
 refused-requires c κs = search needs
 
 returns : tie.Need-returns
+unfolding noState
 returns c =
-    hands (begun-plan _ _ (c .before .before .before .plan-refusal .result) (c .before .before .before .plan-refusal .ensures) (c .before .before .if1 .taken))
-    (c .refused .ensures ∙ rw (c .before .no-state .ensures)) refl
+    let r = c .before .before .before .plan-refusal in
+    hands (begun-plan _ _ (r .result) (r .ensures) (c .before .before .if1 .taken)) (c .refused .ensures ∙ rw (c .before .open-state .ensures)) refl
 
 cast-parts : tie.Need-cast-parts
 cast-parts c = search needs
@@ -39,23 +42,23 @@ cast-parts c = search needs
 mul-if2 : tie.Need-mul-if2
 mul-if2 c = search needs
 
-no-state-requires-2 : tie.Need-no-state-requires-2
-no-state-requires-2 c κs = search needs
+open-state-requires-2 : tie.Need-open-state-requires-2
+open-state-requires-2 c κs = search needs
 
 refused-requires-2 : tie.Need-refused-requires-2
 refused-requires-2 c κs = search needs
 
 returns-2 : tie.Need-returns-2
-unfolding wide
+unfolding wide noState
 returns-2 c =
     hands (begun-8 _ _ (good (c .before .before .before .before)) (words-do-not _ _ (c .before .before .if2 .taken)))
-    (c .refused2 .ensures ∙ rw (c .before .no-state2 .ensures)) refl
+    (c .refused2 .ensures ∙ rw (c .before .open-state2 .ensures)) refl
 
 start-parts-requires : tie.Need-start-parts-requires
 start-parts-requires c κs = (places _ (good (c .before .before .before)) .0, long (c .before))
 
-start-state-requires : tie.Need-start-state-requires
-start-state-requires c κs = search needs
+open-state-requires-3 : tie.Need-open-state-requires-3
+open-state-requires-3 c κs = search needs
 
 answer-of-requires : tie.Need-answer-of-requires
 answer-of-requires c κs = places _ (good (c .before .before .before .before .before .before .before))
@@ -64,26 +67,27 @@ same-length : tie.Need-same-length
 same-length c = search needs
 
 returns-3 : tie.Need-returns-3
-unfolding startWords
+unfolding startState startRecord startWords
 returns-3 c =
-    hands (begun-0 _ _ (good (c .before .before .before .before .before .before .before .before)) (words-fit _ _ (long (c .before .before .before .before .before .before))))
-    (rw (c .answer-of .ensures, c .before .start-state .ensures)) (c .before .before .before .before .start-parts .ensures)
+    let l = c .before .before .before .before .before .before in
+    hands (begun-0 _ _ (good (l .before .before)) (words-say _ _ .1 (long l))) (rw (c .answer-of .ensures, c .before .open-state3 .ensures))
+    (c .before .before .before .before .start-parts .ensures)
 
 pub begin-spec : {M : Type 1} → statement M
 begin-spec =
     tie.close
     (tie.spec
     plan-refusal-requires
-    no-state-requires
+    open-state-requires
     refused-requires
     returns
     cast-parts
     mul-if2
-    no-state-requires-2
+    open-state-requires-2
     refused-requires-2
     returns-2
     start-parts-requires
-    start-state-requires
+    open-state-requires-3
     answer-of-requires
     same-length
     returns-3)

@@ -1,7 +1,7 @@
 -- Each way out is one case of the definition, by the tests before it.
 use mathlib.Core.Path.{_≡_, refl, sym, ap, _∙_}
 use mathlib.Core.Bool.{true, false}
-use Prim.Native.Nat.{_*_}
+use Prim.Native.Nat.{_*_, _≤_}
 use native.Mathlib.Omega.{arith}
 use lib.ListN.{length}
 use Rattle.walk.specs.Units.{wide}
@@ -10,29 +10,46 @@ use Rattle.bucket_test.specs.Words.{wordsFit}
 use Rattle.bucket_test.specs.Answers.{answerOf, isEnding}
 use Rattle.bucket_test.specs.Draw.{stateSound}
 use Rattle.bucket_test.proofs.PlaceLaws.{passed, failed}
-use Rattle.bucket_test.proofs.DrawingLaws.{places, hands, words-fit, words-do-not, drawn-plan, drawn-8, drawn-9, drawn-10, drawn-11, drawn-0}
+use Rattle.bucket_test.proofs.PlaceLists.{words-say}
+use Rattle.bucket_test.proofs.DrawingLaws.{places, hands, words-do-not, drawn-plan, drawn-8, drawn-9, drawn-10, drawn-11, drawn-0}
 use borrow.Author.Needs.{needs}
 use Rattle.bucket_test.proofs.drawing.draw.Statement.{statement}
 use Rattle.bucket_test.proofs.drawing.draw.Tie as tie
+
+-- the places past the tests, from later ones
+abbrev at1 : tie.Else2 → tie.Else1
+at1 c = c .before .before
+
+abbrev at2 : tie.Else4 → tie.Else2
+at2 c = c .before .before .before .before
+
+abbrev at4 : tie.Else5 → tie.Else4
+at4 c = c .before .before .before
+
+abbrev entry : tie.Else2 → tie.Start
+entry c = c .before .before .before .before .before
 
 -- what each test that was passed says
 good : (c : tie.Else1) → planRefusal (c .before .before .before .args .p) ≡ 0
 good c = omega (arith, c .before .plan-refusal .ensures)
 
-long : (c : tie.Else2) → length (c .before .before .before .before .before .args .words .now) ≡ wide * c .before .before .before .before .before .args .p .count
+long : (c : tie.Else2) → let a = entry c .args in length (a .words .now) ≡ wide * a .p .count
 unfolding wide
 long c = c .if2 .left
 
-fits : (c : tie.Else2) → wordsFit (c .before .before .before .before .before .args .p) (c .before .before .before .before .before .args .words .now) ≡ true
-fits c = words-fit _ _ (long c)
+fits : (c : tie.Else2) → let a = entry c .args in wordsFit (a .p) (a .words .now) ≡ true
+fits c = words-say _ _ .1 (long c)
 
-over : (c : tie.After-ends) → c .ends .result ≡ isEnding (answerOf (c .before .before .before .before .before .before .before .before .args .p) (c .before .before .before .before .before .before .before .before .args .s))
+bit : (c : tie.Else4) → entry (at2 c) .args .d ≤ 1
+bit c = c .before .before .before .if3 .left
+
+over : (c : tie.After-ends) → let a = entry (c .before .before .before) .args in c .ends .result ≡ isEnding (answerOf (a .p) (a .s))
 over c = c .ends .ensures ∙ ap isEnding (c .before .answer-of .ensures)
 
-open-yet : (c : tie.Else4) → isEnding (answerOf (c .before .before .before .before .before .before .before .before .before .args .p) (c .before .before .before .before .before .before .before .before .before .args .s)) ≡ false
+open-yet : (c : tie.Else4) → let a = entry (at2 c) .args in isEnding (answerOf (a .p) (a .s)) ≡ false
 open-yet c = sym (over (c .before)) ∙ c .if4 .left
 
-sound : (c : tie.Else5) → stateSound (c .before .before .before .before .before .before .before .before .before .before .before .before .args .p) (c .before .before .before .before .before .before .before .before .before .before .before .before .args .s) (c .before .before .before .before .before .before .before .before .before .before .before .before .args .words .now) ≡ true
+sound : (c : tie.Else5) → let a = entry (at2 (at4 c)) .args in stateSound (a .p) (a .s) (a .words .now) ≡ true
 sound c = passed (c .before .state-sound .ensures) (c .if5 .left)
 
 plan-refusal-requires : tie.Need-plan-refusal-requires
@@ -42,7 +59,9 @@ refused-requires : tie.Need-refused-requires
 refused-requires c κs = search needs
 
 returns : tie.Need-returns
-returns c = hands (drawn-plan _ _ _ _ (c .before .before .plan-refusal .result) (c .before .before .plan-refusal .ensures) (c .before .if1 .taken)) (c .refused .ensures) refl
+returns c =
+    let r = c .before .before .plan-refusal in
+    hands (drawn-plan _ _ _ _ (r .result) (r .ensures) (c .before .if1 .taken)) (c .refused .ensures) refl
 
 cast-count : tie.Need-cast-count
 cast-count c = search needs
@@ -61,7 +80,9 @@ refused-requires-3 : tie.Need-refused-requires-3
 refused-requires-3 c κs = search needs
 
 returns-3 : tie.Need-returns-3
-returns-3 c = hands (drawn-9 _ _ _ _ (good (c .before .before .before .before)) (fits (c .before .before)) (c .before .if3 .taken)) (c .refused3 .ensures) refl
+returns-3 c =
+    let l = c .before .before in
+    hands (drawn-9 _ _ _ _ (good (at1 l)) (fits l) (c .before .if3 .taken)) (c .refused3 .ensures) refl
 
 answer-of-requires : tie.Need-answer-of-requires
 answer-of-requires c κs = places _ (good (c .before .before .before))
@@ -73,10 +94,13 @@ refused-requires-4 : tie.Need-refused-requires-4
 refused-requires-4 c κs = search needs
 
 returns-4 : tie.Need-returns-4
-returns-4 c = hands (drawn-10 _ _ _ _ (good (c .before .before .before .before .before .before .before)) (fits (c .before .before .before .before .before)) (c .before .before .before .before .if3 .left) (sym (over (c .before .before)) ∙ c .before .if4 .taken)) (c .refused4 .ensures) refl
+returns-4 c =
+    let e = c .before .before in
+    let l = e .before .before .before in
+    hands (drawn-10 _ _ _ _ (good (at1 l)) (fits l) (e .before .before .if3 .left) (sym (over e) ∙ c .before .if4 .taken)) (c .refused4 .ensures) refl
 
 state-sound-requires : tie.Need-state-sound-requires
-state-sound-requires c κs = (good (c .before .before .before .before .before .before .before), long (c .before .before .before .before .before))
+state-sound-requires c κs = let l = at2 (c .before) in (good (at1 l), long l)
 
 refused-requires-5 : tie.Need-refused-requires-5
 refused-requires-5 c κs = search needs
@@ -85,22 +109,28 @@ same-length : tie.Need-same-length
 same-length c = search needs
 
 returns-5 : tie.Need-returns-5
-returns-5 c = hands (drawn-11 _ _ _ _ (good (c .before .before .before .before .before .before .before .before .before .before)) (fits (c .before .before .before .before .before .before .before .before)) (c .before .before .before .before .before .before .before .if3 .left) (open-yet (c .before .before .before .before)) (failed (c .before .before .state-sound .ensures) (c .before .if5 .taken))) (c .refused5 .ensures) refl
+returns-5 c =
+    let o = c .before .before .before .before in
+    let unsound = failed (c .before .before .state-sound .ensures) (c .before .if5 .taken) in
+    hands (drawn-11 _ _ _ _ (good (at1 (at2 o))) (fits (at2 o)) (bit o) (open-yet o) unsound) (c .refused5 .ensures) refl
 
 take-one-requires : tie.Need-take-one-requires
-take-one-requires c κs = (good (c .before .before .before .before .before .before .before .before .before .before), long (c .before .before .before .before .before .before .before .before), c .before .before .before .before .before .before .before .if3 .left, open-yet (c .before .before .before .before), sound (c .before))
+take-one-requires c κs =
+    let o = at4 (c .before) in
+    (good (at1 (at2 o)), long (at2 o), bit o, open-yet o, sound (c .before))
 
 answer-of-requires-2 : tie.Need-answer-of-requires-2
-answer-of-requires-2 c κs = places _ (good (c .before .before .before .before .before .before .before .before .before .before .before .before .before))
+answer-of-requires-2 c κs = places _ (good (at1 (at2 (at4 (c .before .before .before .before)))))
 
 same-length-2 : tie.Need-same-length-2
 same-length-2 c = search needs
 
 returns-6 : tie.Need-returns-6
 returns-6 c =
+    let f = c .before .before .before .before .before in
+    let o = at4 f in
     let t = c .before .before .before .take-one .ensures in
-    hands (drawn-0 _ _ _ _ (good (c .before .before .before .before .before .before .before .before .before .before .before .before .before .before)) (fits (c .before .before .before .before .before .before .before .before .before .before .before .before)) (c .before .before .before .before .before .before .before .before .before .before .before .if3 .left) (open-yet (c .before .before .before .before .before .before .before .before)) (sound (c .before .before .before .before .before)))
-    (rw (c .answer-of2 .ensures, t .0)) (t .1)
+    hands (drawn-0 _ _ _ _ (good (at1 (at2 o))) (fits (at2 o)) (bit o) (open-yet o) (sound f)) (rw (c .answer-of2 .ensures, t .0)) (t .1)
 
 pub draw-spec : {M : Type 1} → statement M
 draw-spec =

@@ -50,7 +50,8 @@ loop-again c =
     let e = c .before .before .draw .ensures in (
       omega arith,
       search needs,
-      run-on _ _ _ _ _ _ (l .before .loop .inv .2) (l .loop-test .taken) (passed (n .is-open .ensures) (c .before .before .before .before .before .before .if1 .left)) _ _ (e .0) (e .1),
+      run-on _ _ _ _ _ _ (l .before .loop .inv .2) (l .loop-test .taken)
+          (passed (n .is-open .ensures) (c .before .before .before .before .before .before .if1 .left)) _ _ (e .0) (e .1),
     )
 
 same-length-2 : tie.Need-same-length-2 Inv-loop μ-loop

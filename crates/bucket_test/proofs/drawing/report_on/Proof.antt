@@ -14,7 +14,7 @@ plan-refusal-requires : tie.Need-plan-refusal-requires
 plan-refusal-requires c κs = search needs
 
 returns : tie.Need-returns
-returns c = sym (report-plan (c .before .before .args .p) (c .before .before .args .s) (c .before .plan-refusal .result) (c .before .plan-refusal .ensures) (c .if1 .taken))
+returns c = let r = c .before .plan-refusal in sym (report-plan _ _ (r .result) (r .ensures) (c .if1 .taken))
 
 answer-of-requires : tie.Need-answer-of-requires
 answer-of-requires c κs = places _ (good c)
@@ -23,7 +23,10 @@ interval-of-requires : tie.Need-interval-of-requires
 interval-of-requires c κs = places _ (good (c .before)) .0
 
 returns-2 : tie.Need-returns-2
-returns-2 c = rw (report-0 (c .before .before .before .before .args .p) (c .before .before .before .before .args .s) (good (c .before .before)), c .before .answer-of .ensures, c .interval-of .ensures .0, c .interval-of .ensures .1)
+returns-2 c =
+    let a = c .before .before .before .before .args in
+    let v = c .interval-of .ensures in
+    rw (report-0 (a .p) (a .s) (good (c .before .before)), c .before .answer-of .ensures, v .0, v .1)
 
 pub report-on-spec : {M : Type 1} → statement M
 report-on-spec =

@@ -8,8 +8,7 @@ use lib.ListN.{length}
 use Rattle.walk.specs.Units.{wide}
 use Rattle.bucket_test.specs.Tests.{allTo}
 use Rattle.bucket_test.specs.Plan.{spendingOf}
-use Rattle.bucket_test.specs.Words.{partAt}
-use Rattle.bucket_test.specs.Turn.{recordAt, recordSound}
+use Rattle.bucket_test.specs.Turn.{recordAt, soundAt}
 use Rattle.bucket_test.specs.declared.Plan.{Plan}
 use Rattle.bucket_test.specs.declared.State.{State}
 use Rattle.bucket_test.proofs.PlaceLaws.{passed, failed, all-next, all-done, all-fails}
@@ -19,11 +18,11 @@ use borrow.Author.Needs.{needs}
 use Rattle.bucket_test.proofs.judging.records_sound.Statement.{statement}
 use Rattle.bucket_test.proofs.judging.records_sound.Tie as tie
 
-abbrev soundAt : Plan → State → List ℕ → ℕ → Bool
-soundAt p s ws i = recordSound (spendingOf p i (s .n)) (s .n) (s .ones) (recordAt s i .mark) (recordAt s i) (partAt i ws)
+abbrev passes : Plan → State → List ℕ → ℕ → Bool
+passes p s ws i = soundAt p ws (s .n) (s .ones) i (recordAt s i)
 
 abbrev Inv-loop : tie.InvT-loop
-Inv-loop words p s count i₀ i = (i ≤ count) × (count ≤ 10) × (length words ≡ 769 * count) × (allTo i (soundAt p s words) ≡ true)
+Inv-loop words p s count i₀ i = (i ≤ count) × (count ≤ 10) × (length words ≡ 769 * count) × (allTo i (passes p s words) ≡ true)
 
 abbrev μ-loop : tie.MeasureT-loop
 μ-loop words p s count i₀ i = count - i
@@ -49,8 +48,10 @@ element-copy-out-spending-at c = search needs
 
 spending-at-requires : tie.Need-spending-at-requires Inv-loop μ-loop
 spending-at-requires c κs =
-    let ok = accepted (c .before .before .before .before .before .args .t1) .0 (c .before .before .before .before .before .pre .0) in
-    (ok .allowance-range (c .before .before .before .loop .i) (c .before .before .loop-test .taken) .1, ok .delay-range .0, omega (arith, c .before .before .before .before .before .pre .2))
+    let b = c .before .before in
+    let h = b .before .before .before .pre in
+    let ok = accepted (b .before .before .before .args .t1) .0 (h .0) in
+    (ok .allowance-range (b .before .loop .i) (b .loop-test .taken) .1, ok .delay-range .0, omega (arith, h .2))
 
 mul-at : tie.Need-mul-at Inv-loop μ-loop
 mul-at c = search needs
@@ -74,15 +75,21 @@ record-sound-requires : tie.Need-record-sound-requires Inv-loop μ-loop
 record-sound-requires c κs = search needs
 
 judged : (c : tie.After-record-sound Inv-loop μ-loop)
-    → let a = c .before .before .before .before .before .before .before .before .args in c .record-sound .result ≡ soundAt (a .t1) (a .t2) (a .words .now) (c .before .before .before .before .before .before .loop .i)
+    → let l = c .before .before .before .before .before .before in
+    let a = l .before .before .args in
+    c .record-sound .result ≡ passes (a .t1) (a .t2) (a .words .now) (l .loop .i)
 unfolding spendingOf
-judged c = c .record-sound .ensures ∙ rw (c .before .before .spending-at .ensures, part-lent (c .before .before .before .before .before .before .loop .i) (c .before .before .before .before .before .before .before .before .args .words .now))
+judged c =
+    let l = c .before .before .before .before .before .before in
+    c .record-sound .ensures ∙ rw (c .before .before .spending-at .ensures, part-lent (l .loop .i) (l .before .before .args .words .now))
 
 returns : tie.Need-returns Inv-loop μ-loop
 returns c =
-    let a = c .before .before .before .before .before .before .before .before .before .args in
-    let l = c .before .before .before .before .before .before .before .loop in
-    sym (all-fails (soundAt (a .t1) (a .t2) (a .words .now)) (a .t1 .count) (l .i) (c .before .before .before .before .before .before .loop-test .taken) (failed (judged (c .before)) (c .if1 .taken)))
+    let b = c .before .before .before .before .before .before in
+    let a = b .before .before .before .args in
+    sym
+    (all-fails (passes (a .t1) (a .t2) (a .words .now)) (a .t1 .count) (b .before .loop .i) (b .loop-test .taken)
+    (failed (judged (c .before)) (c .if1 .taken)))
 
 add-i : tie.Need-add-i Inv-loop μ-loop
 add-i c = search needs
@@ -97,14 +104,14 @@ loop-again c =
       omega arith,
       l .inv .1,
       l .inv .2,
-      all-next (soundAt (a .t1) (a .t2) (a .words .now)) (l .i) (l .inv .3) (passed (judged (c .before)) (c .if1 .left)),
+      all-next (passes (a .t1) (a .t2) (a .words .now)) (l .i) (l .inv .3) (passed (judged (c .before)) (c .if1 .left)),
     )
 
 returns-2 : tie.Need-returns-2 Inv-loop μ-loop
 returns-2 c =
     let a = c .before .before .before .args in
     let l = c .before .loop in
-    all-done (soundAt (a .t1) (a .t2) (a .words .now)) (a .t1 .count) (l .i) (l .inv .0) (c .loop-test .left) (l .inv .3)
+    all-done (passes (a .t1) (a .t2) (a .words .now)) (a .t1 .count) (l .i) (l .inv .0) (c .loop-test .left) (l .inv .3)
 
 pub records-sound-spec : {M : Type 1} → statement M
 records-sound-spec =

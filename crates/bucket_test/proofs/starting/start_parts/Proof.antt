@@ -49,7 +49,8 @@ start-part-requires : tie.Need-start-part-requires Inv-loop μ-loop
 unfolding wide
 start-part-requires c κs =
     let l = c .before .before .loop in
-    rw (part-lent (l .i) (l .words)) (part-length (l .words) (c .before .before .before .before .args .count) (l .i) (l .inv .2 ∙ l .inv .1) (c .before .loop-test .taken))
+    rw (part-lent (l .i) (l .words))
+    (part-length (l .words) (c .before .before .before .before .args .count) (l .i) (l .inv .2 ∙ l .inv .1) (c .before .loop-test .taken))
 
 add-i : tie.Need-add-i Inv-loop μ-loop
 add-i c = search needs
@@ -63,7 +64,7 @@ loop-again c =
       omega arith,
       l .inv .1,
       search needs,
-      part-put startAt (c .before .before .before .before .before .before .before .args .words .now) (l .i) (omega arith) (l .words) (l .inv .2) (l .inv .3) _ (c .before .before .start-part .ensures),
+      part-put startAt _ (l .i) (omega arith) (l .words) (l .inv .2) (l .inv .3) _ (c .before .before .start-part .ensures),
     )
 
 same-length : tie.Need-same-length Inv-loop μ-loop

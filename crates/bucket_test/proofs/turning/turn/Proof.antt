@@ -24,7 +24,9 @@ same-length c = search needs
 
 returns : tie.Need-returns
 unfolding walkedOn
-returns c = rw (c .before .before .before .before .before .before .enum-told .given .1) (rw (c .mark-of .ensures, c .before .before .before .step .ensures .0), c .before .before .before .step .ensures .1)
+returns c =
+    let w = c .before .before .before in
+    rw (w .before .before .before .enum-told .given .1) (rw (c .mark-of .ensures, w .step .ensures .0), w .step .ensures .1)
 
 returns-2 : tie.Need-returns-2
 returns-2 c = search needs

@@ -6,9 +6,9 @@ use native.Mathlib.Omega.{arith}
 use lib.ListN.{length, take, drop, getD}
 use Rattle.walk.specs.Units.{wide}
 use Rattle.bucket_test.specs.Tests.{overTo, joinTo}
-use Rattle.bucket_test.specs.Plan.{thresholdAt, spendingOf}
+use Rattle.bucket_test.specs.Plan.{spendingOf}
 use Rattle.bucket_test.specs.Words.{partAt}
-use Rattle.bucket_test.specs.Turn.{noRecord, turnRecord, turnPart}
+use Rattle.bucket_test.specs.Turn.{noRecord, recordTurn, partTurn}
 use Rattle.bucket_test.specs.declared.Plan.{Plan}
 use Rattle.bucket_test.specs.declared.Threshold.{Threshold}
 use Rattle.bucket_test.proofs.Rules.{accepted}
@@ -17,11 +17,8 @@ use borrow.Author.Needs.{needs}
 use Rattle.bucket_test.proofs.turning.turn_all.Statement.{statement}
 use Rattle.bucket_test.proofs.turning.turn_all.Tie as tie
 
-abbrev recordTurn : Plan → List ℕ → ℕ → ℕ → ℕ → Threshold → Threshold
-recordTurn p ws n ones i t = turnRecord (thresholdAt p i) (spendingOf p i n) n ones (t .mark) t (partAt i ws)
-
-abbrev partTurn : Plan → List Threshold → List ℕ → ℕ → ℕ → ℕ → List ℕ
-partTurn p rs ws n ones i = turnPart (thresholdAt p i) (spendingOf p i n) n ones (getD rs i noRecord .mark) (getD rs i noRecord) (partAt i ws)
+abbrev partOf : Plan → List Threshold → List ℕ → ℕ → ℕ → ℕ → List ℕ
+partOf p rs ws n ones i = partTurn p ws n ones i (getD rs i noRecord)
 
 abbrev Inv-loop : tie.InvT-loop
 Inv-loop words₀ n ones p count next₀ i₀ words next i =
@@ -30,7 +27,7 @@ Inv-loop words₀ n ones p count next₀ i₀ words next i =
     × (length words₀ ≡ 769 * count)
     × (length words ≡ length words₀)
     × (next ≡ overTo i (recordTurn p words₀ n ones) next₀)
-    × (words ≡ joinTo i (partTurn p next₀ words₀ n ones) ++ drop (wide * i) words₀)
+    × (words ≡ joinTo i (partOf p next₀ words₀ n ones) ++ drop (wide * i) words₀)
 
 abbrev μ-loop : tie.MeasureT-loop
 μ-loop words₀ n ones p count next₀ i₀ words next i = count - i
@@ -47,7 +44,7 @@ loop-holds c =
       c .before .pre .1,
       refl,
       refl,
-      words-none (partTurn (a .t1) (a .records) (a .words .now) (a .n) (a .ones)) (a .words .now),
+      words-none (partOf (a .t1) (a .records) (a .words .now) (a .n) (a .ones)) (a .words .now),
     )
 
 mul-t : tie.Need-mul-t Inv-loop μ-loop
@@ -70,9 +67,10 @@ element-copy-out-spending-at c = search needs
 
 spending-at-requires : tie.Need-spending-at-requires Inv-loop μ-loop
 spending-at-requires c κs =
-    let a = c .before .before .before .before .before .before .args in
-    let ok = accepted (a .t1) .0 (c .before .before .before .before .before .before .pre .0) in
-    (ok .allowance-range (c .before .before .before .before .loop .i) (c .before .before .before .loop-test .taken) .1, ok .delay-range .0, omega (arith, c .before .before .before .before .before .before .pre .2))
+    let b = c .before .before .before in
+    let h = b .before .before .before .pre in
+    let ok = accepted (b .before .before .before .args .t1) .0 (h .0) in
+    (ok .allowance-range (b .before .loop .i) (b .loop-test .taken) .1, ok .delay-range .0, omega (arith, h .2))
 
 mul-at : tie.Need-mul-at Inv-loop μ-loop
 mul-at c = search needs
@@ -102,16 +100,16 @@ now-at c =
     let a = c .before .before .before .before .before .before .before .args in
     let l = c .before .before .before .before .before .loop in (
       record-now (recordTurn (a .t1) (a .words .now) (a .n) (a .ones)) (a .records) (l .next) (l .i) (l .inv .4) noRecord,
-      part-now (partTurn (a .t1) (a .records) (a .words .now) (a .n) (a .ones)) (a .words .now) (l .i) (omega arith) (l .words) (l .inv .3) (l .inv .5),
+      part-now (partOf (a .t1) (a .records) (a .words .now) (a .n) (a .ones)) (a .words .now) (l .i) (omega arith) (l .words) (l .inv .3) (l .inv .5),
     )
 
 turn-requires : tie.Need-turn-requires Inv-loop μ-loop
 unfolding spendingOf
 turn-requires c κs =
-    let a = c .before .before .before .before .before .before .before .before .args in
-    let l = c .before .before .before .before .before .before .loop in
+    let b = c .before .before .before .before .before in
+    let s = b .before .before .before in
     let k = now-at (c .before) in
-    may-turn _ (a .n) (a .ones) (c .before .spending-at .ensures) (k .0) (k .1) (c .before .before .before .before .before .before .before .before .pre .3 (l .i) (c .before .before .before .before .before .loop-test .taken))
+    may-turn _ (s .args .n) (s .args .ones) (c .before .spending-at .ensures) (k .0) (k .1) (s .pre .3 (b .before .loop .i) (b .loop-test .taken))
 
 mul-next : tie.Need-mul-next Inv-loop μ-loop
 mul-next c = search needs
@@ -139,7 +137,7 @@ loop-again c =
       search needs,
       record-put (recordTurn (a .t1) (a .words .now) (a .n) (a .ones)) (a .records) (l .next) (l .i) (l .inv .4) noRecord _
           (same-record _ (a .n) (a .ones) e (k .0) (k .1) (done .0)),
-      part-put (partTurn (a .t1) (a .records) (a .words .now) (a .n) (a .ones)) (a .words .now) (l .i) (omega arith) (l .words) (l .inv .3) (l .inv .5) _
+      part-put (partOf (a .t1) (a .records) (a .words .now) (a .n) (a .ones)) (a .words .now) (l .i) (omega arith) (l .words) (l .inv .3) (l .inv .5) _
           (same-part _ (a .n) (a .ones) e (k .0) (k .1) (done .1)),
     )
 
@@ -152,7 +150,7 @@ returns c =
     let l = c .before .loop in
     let ended : l .i ≡ a .t1 .count = omega arith in (
       l .inv .4 ∙ ap (λ (k : ℕ). overTo k (recordTurn (a .t1) (a .words .now) (a .n) (a .ones)) (a .records)) ended,
-      l .inv .5 ∙ words-all (partTurn (a .t1) (a .records) (a .words .now) (a .n) (a .ones)) (a .words .now) (a .t1 .count) (l .i) (c .before .before .before .pre .1) ended,
+      l .inv .5 ∙ words-all (partOf (a .t1) (a .records) (a .words .now) (a .n) (a .ones)) _ (a .t1 .count) (l .i) (c .before .before .before .pre .1) ended,
     )
 
 pub turn-all-spec : {M : Type 1} → statement M

@@ -1,5 +1,5 @@
 -- Both products are at most 2^43 times a million, so their sum with 999999 fits.
-use Prim.Native.Nat.{ℕ, _*_, _-_, _≤_}
+use Prim.Native.Nat.{_*_, _-_, _≤_}
 use native.Mathlib.Nat.{mul-le-mul}
 use native.Mathlib.Omega.{arith}
 use Rattle.walk.specs.Units.{million, massLimit}
@@ -8,16 +8,13 @@ use Rattle.walk.proofs.Rounding.{round-up-is}
 use Rattle.walk.proofs.mass.mass_up.Statement.{statement}
 use Rattle.walk.proofs.mass.mass_up.Tie as tie
 
-product : (x y : ℕ) → x ≤ massLimit → y ≤ million → x * y ≤ massLimit * million
-product x y h k = mul-le-mul h k
-
 module _ (c : tie.Start) where
   stays : c .args .stay * (1000000 - c .args .a) ≤ massLimit * million
   unfolding million
-  stays = product _ (1000000 - c .args .a) (c .pre .1) (omega arith)
+  stays = mul-le-mul (c .pre .1) (omega arith)
 
   comes : c .args .come * c .args .a ≤ massLimit * million
-  comes = product _ _ (c .pre .2) (c .pre .0)
+  comes = mul-le-mul (c .pre .2) (c .pre .0)
 
 sub-stays : tie.Need-sub-stays
 unfolding million

@@ -56,14 +56,15 @@ returns c =
     let s = f .before .before .before .before .before in
     let hi = f .before .before .find-upper in
     let lo = f .find-lower in
-    let o = ordered f in (
+    let o = ordered f in
+    let shift = c .before .before .before .before .before .before .shift-down in
+    let clear = c .before .before .clear-from in (
       hi .ensures .0,
       lo .ensures .0,
       hi .ensures .1,
       lo .ensures .1,
-      trimmed (s .args .part .now) (c .before .before .before .before .before .before .shift-down .last .0) (c .before .before .clear-from .last .0) (s .args .m) (lo .result .at)
-          (hi .result .at - lo .result .at) (s .pre .0) (s .pre .1) (omega (arith, o))
-          (c .before .before .before .before .before .before .shift-down .ensures) (c .before .before .clear-from .ensures),
+      trimmed (s .args .part .now) (shift .last .0) (clear .last .0) (s .args .m) (lo .result .at)
+          (hi .result .at - lo .result .at) (s .pre .0) (s .pre .1) (omega (arith, o)) (shift .ensures) (clear .ensures),
     )
 
 pub trim-spec : {M : Type 1} → statement M

@@ -12,6 +12,7 @@ use mir.Syntax.{w32, w64}
 use mir.Val.{SFits, toZ, ofZ}
 use mir.ValLaws.{toZ-ofZ}
 use Rattle.walk.specs.Numbers.{le?, lt?}
+use Rattle.walk.specs.Units.{wide}
 use Rattle.walk.specs.Soundness.{boundariesSound}
 use Rattle.walk.proofs.Tests.{le?-complete, le?-fails}
 use Rattle.walk.proofs.Signed.{apartBits, not-less, not-at-most, lower-fits, lower-same, count-same, apart-fits, apart-same}
@@ -66,7 +67,7 @@ module _ (s : tie.Start) where
   ones-is = count-same (s .args .ones) (s .fits .ones .fits)
 
   past0 : Passed 0 s
-  unfolding boundariesSound
+  unfolding boundariesSound wide
   past0 = refl
 
 -- the entry, from the place after each test

@@ -1,6 +1,6 @@
 -- The tests on the boundaries leave at most 769 live counts, so the live words may be summed up; the words passed are the row's, also
 -- where fewer are lent.
-use mathlib.Core.Path.{_≡_, refl, sym, ap, _∙_}
+use mathlib.Core.Path.{_≡_, sym, ap, _∙_}
 use mathlib.Core.Bool.{Bool, true, false}
 use mathlib.Core.List.{List}
 use Prim.Native.Nat.{ℕ, _+_, _-_, _≤_}

@@ -5,6 +5,8 @@ use native.Mathlib.Omega.{arith}
 use borrow.Author.Needs.{needs}
 use mir.Syntax.{w32}
 use mir.Val.{SFits}
+use Rattle.walk.specs.Units.{wide}
+use Rattle.walk.specs.Walk.{wide?}
 use Rattle.walk.specs.Record.{isWide}
 use Rattle.walk.proofs.Signed.{lower-fits, apart-sum, apart-fits, eq-bits}
 use Rattle.walk.proofs.soundness.is_wide.Statement.{statement}
@@ -26,7 +28,7 @@ sub-result : tie.Need-sub-result
 sub-result c = apart-fits (c .before .before .before .args .w .lower) (signed c) (c .before .before .before .args .w .upper) (small c)
 
 returns : tie.Need-returns
-unfolding isWide
+unfolding isWide wide? wide
 returns c =
     let w = c .before .before .before .args .w in
     eq-bits _ 770 (apart-fits (w .lower) (signed c) (w .upper) (small c)) (omega arith)
