@@ -4,7 +4,7 @@ use mathlib.Core.List.{List, [], _++_, append-assoc, append-nil}
 use mathlib.Core.Logic.{inl, inr}
 use Prim.Native.Nat.{ℕ, _+_, _*_, _≤_, _<_}
 use native.Mathlib.Omega.{arith}
-use lib.ListN.{length, length-append}
+use lib.ListN.{length, replicate, length-append}
 use Rattle.walk.specs.Units.{million, allowanceLimit, horizonLimit}
 use Rattle.bucket_test.specs.Plan.{thresholdAt, allowanceAt, leftAt, rightAt, Permitted, Accepted}
 use Rattle.bucket_test.specs.declared.Plan.{Plan}
@@ -26,10 +26,10 @@ counted p = record {
   buckets = p .buckets;
   delay = p .delay;
   horizon = p .horizon;
-  thresholds = filled 10 (p .count) (thresholdAt p);
-  allowances = filled 10 (p .count) (allowanceAt p);
-  left = filled 16 (p .buckets) (leftAt p);
-  right = filled 16 (p .buckets) (rightAt p);
+  thresholds = filled (p .count) (thresholdAt p) (replicate 10 0);
+  allowances = filled (p .count) (allowanceAt p) (replicate 10 0);
+  left = filled (p .buckets) (leftAt p) (replicate 16 0);
+  right = filled (p .buckets) (rightAt p) (replicate 16 0);
 }
 
 -- ---- it is the same plan
@@ -123,10 +123,10 @@ module _ (p : Plan) (a : Accepted p) where
       in-entry i 4 0 (headerSize + 12 * i) l (omega arith) (omega arith)
       ∙ field-here 4 (thresholdAt p i) (toLE 8 (allowanceAt p i)) (omega (arith, a .threshold-range i l .1))
 
-  in-allowance : (i : ℕ) → i < p .count → field 8 (headerSize + 12 * i + 4) (encoded p) ≡ allowanceAt p i
+  in-allowance : (i : ℕ) → i < p .count → field 8 (headerSize + 4 + 12 * i) (encoded p) ≡ allowanceAt p i
   unfolding allowanceLimit
   in-allowance i l =
-      in-entry i 8 4 (headerSize + 12 * i + 4) l (omega arith) (omega arith)
+      in-entry i 8 4 (headerSize + 4 + 12 * i) l (omega arith) (omega arith)
       ∙ field-next 8 0 4 (thresholdAt p i) (toLE 8 (allowanceAt p i)) ∙ field-last 8 (allowanceAt p i) (omega (arith, a .allowance-range i l .1))
 
   in-left : (j : ℕ) → j < p .buckets → field 4 (bucketOffset (p .count) + 8 * j) (encoded p) ≡ leftAt p j
@@ -134,9 +134,9 @@ module _ (p : Plan) (a : Accepted p) where
       in-ends j 4 0 (bucketOffset (p .count) + 8 * j) l (omega arith) (omega arith)
       ∙ field-here 4 (leftAt p j) (toLE 4 (rightAt p j)) (omega (arith, permitted-le (leftAt p j) (a .ends-permitted j l .0)))
 
-  in-right : (j : ℕ) → j < p .buckets → field 4 (bucketOffset (p .count) + 8 * j + 4) (encoded p) ≡ rightAt p j
+  in-right : (j : ℕ) → j < p .buckets → field 4 (bucketOffset (p .count) + 4 + 8 * j) (encoded p) ≡ rightAt p j
   in-right j l =
-      in-ends j 4 4 (bucketOffset (p .count) + 8 * j + 4) l (omega arith) (omega arith)
+      in-ends j 4 4 (bucketOffset (p .count) + 4 + 8 * j) l (omega arith) (omega arith)
       ∙ field-next 4 0 4 (leftAt p j) (toLE 4 (rightAt p j)) ∙ field-last 4 (rightAt p j) (omega (arith, permitted-le (rightAt p j) (a .ends-permitted j l .1)))
 
   -- ---- the plan that its form holds
@@ -149,10 +149,10 @@ module _ (p : Plan) (a : Accepted p) where
         in-buckets,
         in-delay,
         in-horizon,
-        filled-cong 10 (p .count) _ (thresholdAt p) in-threshold,
-        filled-cong 10 (p .count) _ (allowanceAt p) in-allowance,
-        filled-cong 16 (p .buckets) _ (leftAt p) in-left,
-        filled-cong 16 (p .buckets) _ (rightAt p) in-right,
+        filled-cong (p .count) _ (thresholdAt p) (replicate 10 0) in-threshold,
+        filled-cong (p .count) _ (allowanceAt p) (replicate 10 0) in-allowance,
+        filled-cong (p .buckets) _ (leftAt p) (replicate 16 0) in-left,
+        filled-cong (p .buckets) _ (rightAt p) (replicate 16 0) in-right,
       )
 
   pub form-read : readRefusal (encoded p) ≡ 0
