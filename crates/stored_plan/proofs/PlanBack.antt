@@ -1,6 +1,6 @@
 -- An accepted plan's form is read back: the plan with zeros past its counts. Assumes nothing.
 use mathlib.Core.Path.{_≡_, refl, _∙_}
-use mathlib.Core.List.{List, [], _++_, append-assoc, append-nil}
+use mathlib.Core.List.{[], _++_, append-assoc, append-nil}
 use mathlib.Core.Logic.{inl, inr}
 use Prim.Native.Nat.{ℕ, _+_, _*_, _≤_, _<_}
 use native.Mathlib.Omega.{arith}
@@ -11,11 +11,11 @@ use Rattle.bucket_test.specs.declared.Plan.{Plan}
 use Rattle.bucket_test.proofs.Rules.{accepted}
 use Rattle.bucket_test.proofs.Ignored.{ignored}
 use Rattle.stored_plan.specs.Little.{toLE, field}
-use Rattle.stored_plan.specs.Form.{headerSize, bucketOffset, header, thresholdEntries, bucketEntries, encoded}
+use Rattle.stored_plan.specs.Form.{pair, headerSize, bucketOffset, header, thresholdEntries, bucketEntries, encoded}
 use Rattle.stored_plan.specs.Reading.{filled, countIn, bucketsIn, planIn, readRefusal}
 use Rattle.stored_plan.specs.RoundTrip.{Same}
 use Rattle.stored_plan.proofs.LittleLaws.{field-right, field-next, field-here, field-last}
-use Rattle.stored_plan.proofs.FormLaws.{two-length, join-field, header-length, thresholds-length, encoded-length, header-fits}
+use Rattle.stored_plan.proofs.FormLaws.{pair-length, join-field, header-length, thresholds-length, encoded-length, header-fits}
 use Rattle.stored_plan.proofs.ReadingLaws.{filled-length, filled-get, filled-past, filled-cong}
 use Rattle.stored_plan.proofs.Refusals.{readable}
 
@@ -62,12 +62,6 @@ module _ (p : Plan) (a : Accepted p) where
   permitted-le e (inr (inl z)) = omega arith
   permitted-le e (inr (inr (i, l, z))) = omega (arith, a .threshold-range i l .1)
 
-  abbrev entry : ℕ → List ℕ
-  entry i = toLE 4 (thresholdAt p i) ++ toLE 8 (allowanceAt p i)
-
-  abbrev ends : ℕ → List ℕ
-  ends j = toLE 4 (leftAt p j) ++ toLE 4 (rightAt p j)
-
   -- the fields of the header, one behind the other
   unrolled : encoded p ≡ toLE 2 (p .count) ++ (toLE 2 (p .buckets) ++ (toLE 2 headerSize ++ (toLE 2 (bucketOffset (p .count)) ++ (toLE 4 (p .delay) ++ (toLE 4 (p .horizon) ++ (thresholdEntries p ++ bucketEntries p))))))
   unfolding encoded header
@@ -103,20 +97,20 @@ module _ (p : Plan) (a : Accepted p) where
       ∙ field-next 4 4 2 (bucketOffset (p .count)) _ ∙ field-next 4 0 4 (p .delay) _ ∙ field-here 4 (p .horizon) _ (omega (arith, a .horizon-range .1)))
 
   -- a field of entry i, of bucket j
-  in-entry : (i width o at : ℕ) → i < p .count → o + width ≤ 12 → at ≡ headerSize + (12 * i + o) → field width at (encoded p) ≡ field width o (entry i)
+  in-entry : (i width o at : ℕ) → i < p .count → o + width ≤ 12 → at ≡ headerSize + (12 * i + o) → field width at (encoded p) ≡ field width o (pair 4 8 (p .thresholds) (p .allowances) i)
   unfolding encoded thresholdEntries
   in-entry i width o at l h e =
       rw e
       (field-right width (12 * i + o) (header p) (thresholdEntries p ++ bucketEntries p) headerSize (header-length p)
-      ∙ join-field entry 12 (λ k. two-length 4 (thresholdAt p k) 8 (allowanceAt p k)) (p .count) (bucketEntries p) i width o l h)
+      ∙ join-field _ 12 (pair-length 4 8 (p .thresholds) (p .allowances)) (p .count) (bucketEntries p) i width o l h)
 
-  in-ends : (j width o at : ℕ) → j < p .buckets → o + width ≤ 8 → at ≡ bucketOffset (p .count) + (8 * j + o) → field width at (encoded p) ≡ field width o (ends j)
+  in-ends : (j width o at : ℕ) → j < p .buckets → o + width ≤ 8 → at ≡ bucketOffset (p .count) + (8 * j + o) → field width at (encoded p) ≡ field width o (pair 4 4 (p .left) (p .right) j)
   unfolding encoded bucketEntries bucketOffset
   in-ends j width o at l h e =
       let before : length (header p ++ thresholdEntries p) ≡ bucketOffset (p .count) = omega (arith, length-append (header p) (thresholdEntries p), header-length p, thresholds-length p) in
       rw (e, ← append-assoc (header p) (thresholdEntries p) (bucketEntries p))
       (field-right width (8 * j + o) (header p ++ thresholdEntries p) (bucketEntries p) (bucketOffset (p .count)) before
-      ∙ rw append-nil at (join-field ends 8 (λ k. two-length 4 (leftAt p k) 4 (rightAt p k)) (p .buckets) [] j width o l h))
+      ∙ rw append-nil at (join-field (pair 4 4 (p .left) (p .right)) 8 (pair-length 4 4 (p .left) (p .right)) (p .buckets) [] j width o l h))
 
   in-threshold : (i : ℕ) → i < p .count → field 4 (headerSize + 12 * i) (encoded p) ≡ thresholdAt p i
   in-threshold i l =
