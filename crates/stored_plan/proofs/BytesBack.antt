@@ -107,4 +107,4 @@ module _ (bytes : List ℕ) where
 
     pub bytes-back : readRefusal bytes ≡ 0 → encoded (planIn bytes) ≡ bytes
     unfolding planIn
-    bytes-back e = let s = readable bytes .0 e in form-whole (s .1 .0 .0 .1) (s .1 .0 .1 .1) (s .1 .1 .0) (s .1 .1 .1 .0)
+    bytes-back e = let s = readable bytes .0 e in form-whole (s .counts .0 .1) (s .counts .1 .1) (s .offsets) (s .sized)

@@ -57,7 +57,7 @@ form-length-holds p e =
 
 pub accepted-forms-hold : AcceptedForms
 accepted-forms-hold bytes each = (
-  λ e. let z = sym (read-refusal bytes) ∙ e in (planIn bytes, readable bytes .0 z .1 .1 .1 .1, sym (bytes-back bytes each z)),
+  λ e. let z = sym (read-refusal bytes) ∙ e in (planIn bytes, readable bytes .0 z .accepted, sym (bytes-back bytes each z)),
   λ s. read-refusal bytes ∙ rw (s .2) (form-read (s .0) (accepted (s .0) .0 (s .1))),
 )
 
@@ -65,7 +65,8 @@ pub form-written-holds : FormWritten
 form-written-holds p bytes e =
     let w = written-none p bytes (sym (write-refusal p bytes) ∙ e) in
     let n = encoded-length p in
-    rw (← w .0, ← w .1) (take-at (encoded p) (drop (formSize (p .count) (p .buckets)) bytes) _ n, drop-at (encoded p) (drop (formSize (p .count) (p .buckets)) bytes) _ n)
+    let rest = drop (formSize (p .count) (p .buckets)) bytes in
+    rw (← w .0, ← w .1) (take-at (encoded p) rest _ n, drop-at (encoded p) rest _ n)
 
 zeros : Zeros noPlan
 unfolding noPlan filled overTo

@@ -42,17 +42,13 @@ module _ (bytes : List ℕ) where
   unfoldable pub lengthFits : Bool
   lengthFits = eq? (length bytes) (formSize countIn bucketsIn)
 
-  -- 7 for a length under 16, 1, 7 for offsets then total length, 2 to 6
+  -- of a form with a header, before its plan is judged: 1, 7 for offsets then total length
+  unfoldable pub formRefusal : ℕ
+  formRefusal = firstRefusal (unless (rule1 planIn) 1 ∷ unless offsetsFit 7 ∷ unless lengthFits 7 ∷ [])
+
+  -- 7 for a length under 16, the form's, the plan's
   unfoldable pub readRefusal : ℕ
-  readRefusal =
-      firstRefusal (
-      unless (le? headerSize (length bytes)) 7
-      ∷ unless (rule1 planIn) 1
-      ∷ unless offsetsFit 7
-      ∷ unless lengthFits 7
-      ∷ planRefusal planIn
-      ∷ []
-      )
+  readRefusal = firstRefusal (unless (le? headerSize (length bytes)) 7 ∷ formRefusal ∷ planRefusal planIn ∷ [])
 
 -- no plan: zeros in every number
 unfoldable pub noPlan : Plan

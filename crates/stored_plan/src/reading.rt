@@ -1,13 +1,11 @@
 // Reading a stored plan: any bytes give a plan or a refusal (01, refusal 7, and "Order").
 ghost use mathlib.Core.Path.{_≡_};
-ghost use mathlib.Core.List.{[], _∷_};
 ghost use Prim.Native.Nat.{ℕ, _+_, _*_, _≤_, _<_};
 ghost use lib.ListN.{length};
-ghost use Rattle.bucket_test.specs.Tests.{unless, firstRefusal};
 ghost use Rattle.bucket_test.specs.Plan.{rule1};
 ghost use Rattle.stored_plan.specs.Little.{column};
 ghost use Rattle.stored_plan.specs.Form.{headerSize, formSize};
-ghost use Rattle.stored_plan.specs.Reading.{filled, countIn, bucketsIn, planIn, offsetsFit, lengthFits, noPlan, decoded};
+ghost use Rattle.stored_plan.specs.Reading.{filled, countIn, bucketsIn, planIn, offsetsFit, lengthFits, formRefusal, noPlan, decoded};
 use crate::Read;
 use crate::little::read_le;
 use crate::little::read_u32;
@@ -58,7 +56,7 @@ fn length_fits(bytes: &[u8]) -> bool
 // The refusal of a form that has a header, before its plan is judged: 1, 7 for offsets, 7 for the length.
 fn form_refusal(bytes: &[u8]) -> u32
     requires { ⌜ headerSize ≤ length (now bytes) ⌝ }
-    ensures { λ r. ⌜ r ≡ firstRefusal (unless (rule1 (planIn (now (bytes .entry)))) 1 ∷ unless (offsetsFit (now (bytes .entry))) 7 ∷ unless (lengthFits (now (bytes .entry))) 7 ∷ []) ⌝ }
+    ensures { λ r. ⌜ r ≡ formRefusal (now (bytes .entry)) ⌝ }
 {
     let counts = counts_fit(bytes);
     let offsets = offsets_fit(bytes);

@@ -1,6 +1,5 @@
 -- `read_plan` meets its contract: past each refusal that is not there, the refusal is the first of those left to judge. Assumes nothing.
 use mathlib.Core.Path.{sym, ap, _∙_}
-use mathlib.Core.List.{[]}
 use native.Mathlib.Omega.{arith}
 use borrow.Author.Needs.{needs}
 use Rattle.bucket_test.specs.Plan.{planRefusal}
@@ -30,8 +29,8 @@ returns-2 c =
 plan-in-requires : tie.Need-plan-in-requires
 unfolding planIn
 plan-in-requires c κs =
-    let s = form-says (c .before .before .before .before .args .bytes .now) [] (λ e. e, λ e. e) .0 (sym (c .before .form-refusal .ensures) ∙ c .if2 .left) in
-    (s .0 .0 .1, s .0 .1 .1, s .1 .1 .0)
+    let s = form-says (c .before .before .before .before .args .bytes .now) .0 (sym (c .before .form-refusal .ensures) ∙ c .if2 .left) in
+    (s .0 .0 .1, s .0 .1 .1, s .1 .1)
 
 plan-refusal-requires : tie.Need-plan-refusal-requires
 plan-refusal-requires c κs = search needs
