@@ -4,7 +4,7 @@ use mathlib.Core.List.{[], _++_, append-assoc, append-nil}
 use mathlib.Core.Logic.{inl, inr}
 use Prim.Native.Nat.{ℕ, _+_, _*_, _≤_, _<_}
 use native.Mathlib.Omega.{arith}
-use lib.ListN.{length, replicate, length-append}
+use lib.ListN.{replicate}
 use Rattle.walk.specs.Units.{million, allowanceLimit, horizonLimit}
 use Rattle.bucket_test.specs.Plan.{thresholdAt, allowanceAt, leftAt, rightAt, Permitted, Accepted}
 use Rattle.bucket_test.specs.declared.Plan.{Plan}
@@ -15,7 +15,7 @@ use Rattle.stored_plan.specs.Form.{pair, headerSize, bucketOffset, heade
 use Rattle.stored_plan.specs.Reading.{filled, countIn, bucketsIn, planIn, readRefusal}
 use Rattle.stored_plan.specs.RoundTrip.{Same}
 use Rattle.stored_plan.proofs.LittleLaws.{field-right, field-next, field-here, field-last}
-use Rattle.stored_plan.proofs.FormLaws.{pair-length, join-field, header-length, thresholds-length, encoded-length, header-fits}
+use Rattle.stored_plan.proofs.FormLaws.{pair-length, join-field, header-length, front-length, encoded-length, header-fits}
 use Rattle.stored_plan.proofs.ReadingLaws.{filled-length, filled-get, filled-past, filled-cong}
 use Rattle.stored_plan.proofs.Refusals.{readable}
 
@@ -63,7 +63,9 @@ module _ (p : Plan) (a : Accepted p) where
   permitted-le e (inr (inr (i, l, z))) = omega (arith, a .threshold-range i l .1)
 
   -- the fields of the header, one behind the other
-  unrolled : encoded p ≡ toLE 2 (p .count) ++ (toLE 2 (p .buckets) ++ (toLE 2 headerSize ++ (toLE 2 (bucketOffset (p .count)) ++ (toLE 4 (p .delay) ++ (toLE 4 (p .horizon) ++ (thresholdEntries p ++ bucketEntries p))))))
+  unrolled : encoded p
+      ≡ toLE 2 (p .count) ++ (toLE 2 (p .buckets) ++ (toLE 2 headerSize ++ (toLE 2 (bucketOffset (p .count))
+      ++ (toLE 4 (p .delay) ++ (toLE 4 (p .horizon) ++ (thresholdEntries p ++ bucketEntries p))))))
   unfolding encoded header
   unrolled = simp append-assoc
 
@@ -94,22 +96,24 @@ module _ (p : Plan) (a : Accepted p) where
   in-horizon =
       rw unrolled
       (field-next 4 10 2 (p .count) _ ∙ field-next 4 8 2 (p .buckets) _ ∙ field-next 4 6 2 headerSize _
-      ∙ field-next 4 4 2 (bucketOffset (p .count)) _ ∙ field-next 4 0 4 (p .delay) _ ∙ field-here 4 (p .horizon) _ (omega (arith, a .horizon-range .1)))
+      ∙ field-next 4 4 2 (bucketOffset (p .count)) _ ∙ field-next 4 0 4 (p .delay) _
+      ∙ field-here 4 (p .horizon) _ (omega (arith, a .horizon-range .1)))
 
   -- a field of entry i, of bucket j
-  in-entry : (i width o at : ℕ) → i < p .count → o + width ≤ 12 → at ≡ headerSize + (12 * i + o) → field width at (encoded p) ≡ field width o (pair 4 8 (p .thresholds) (p .allowances) i)
+  in-entry : (i width o at : ℕ) → i < p .count → o + width ≤ 12 → at ≡ headerSize + (12 * i + o)
+      → field width at (encoded p) ≡ field width o (pair 4 8 (p .thresholds) (p .allowances) i)
   unfolding encoded thresholdEntries
   in-entry i width o at l h e =
       rw e
       (field-right width (12 * i + o) (header p) (thresholdEntries p ++ bucketEntries p) headerSize (header-length p)
       ∙ join-field _ 12 (pair-length 4 8 (p .thresholds) (p .allowances)) (p .count) (bucketEntries p) i width o l h)
 
-  in-ends : (j width o at : ℕ) → j < p .buckets → o + width ≤ 8 → at ≡ bucketOffset (p .count) + (8 * j + o) → field width at (encoded p) ≡ field width o (pair 4 4 (p .left) (p .right) j)
-  unfolding encoded bucketEntries bucketOffset
+  in-ends : (j width o at : ℕ) → j < p .buckets → o + width ≤ 8 → at ≡ bucketOffset (p .count) + (8 * j + o)
+      → field width at (encoded p) ≡ field width o (pair 4 4 (p .left) (p .right) j)
+  unfolding encoded bucketEntries
   in-ends j width o at l h e =
-      let before : length (header p ++ thresholdEntries p) ≡ bucketOffset (p .count) = omega (arith, length-append (header p) (thresholdEntries p), header-length p, thresholds-length p) in
       rw (e, ← append-assoc (header p) (thresholdEntries p) (bucketEntries p))
-      (field-right width (8 * j + o) (header p ++ thresholdEntries p) (bucketEntries p) (bucketOffset (p .count)) before
+      (field-right width (8 * j + o) (header p ++ thresholdEntries p) (bucketEntries p) (bucketOffset (p .count)) (front-length p)
       ∙ rw append-nil at (join-field (pair 4 4 (p .left) (p .right)) 8 (pair-length 4 4 (p .left) (p .right)) (p .buckets) [] j width o l h))
 
   in-threshold : (i : ℕ) → i < p .count → field 4 (headerSize + 12 * i) (encoded p) ≡ thresholdAt p i
@@ -121,7 +125,8 @@ module _ (p : Plan) (a : Accepted p) where
   unfolding allowanceLimit
   in-allowance i l =
       in-entry i 8 4 (headerSize + 4 + 12 * i) l (omega arith) (omega arith)
-      ∙ field-next 8 0 4 (thresholdAt p i) (toLE 8 (allowanceAt p i)) ∙ field-last 8 (allowanceAt p i) (omega (arith, a .allowance-range i l .1))
+      ∙ field-next 8 0 4 (thresholdAt p i) (toLE 8 (allowanceAt p i))
+      ∙ field-last 8 (allowanceAt p i) (omega (arith, a .allowance-range i l .1))
 
   in-left : (j : ℕ) → j < p .buckets → field 4 (bucketOffset (p .count) + 8 * j) (encoded p) ≡ leftAt p j
   in-left j l =
@@ -131,7 +136,8 @@ module _ (p : Plan) (a : Accepted p) where
   in-right : (j : ℕ) → j < p .buckets → field 4 (bucketOffset (p .count) + 4 + 8 * j) (encoded p) ≡ rightAt p j
   in-right j l =
       in-ends j 4 4 (bucketOffset (p .count) + 4 + 8 * j) l (omega arith) (omega arith)
-      ∙ field-next 4 0 4 (leftAt p j) (toLE 4 (rightAt p j)) ∙ field-last 4 (rightAt p j) (omega (arith, permitted-le (rightAt p j) (a .ends-permitted j l .1)))
+      ∙ field-next 4 0 4 (leftAt p j) (toLE 4 (rightAt p j))
+      ∙ field-last 4 (rightAt p j) (omega (arith, permitted-le (rightAt p j) (a .ends-permitted j l .1)))
 
   -- ---- the plan that its form holds
 

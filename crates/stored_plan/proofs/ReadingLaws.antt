@@ -9,8 +9,8 @@ use Rattle.bucket_test.specs.Tests.{overTo}
 use Rattle.bucket_test.proofs.PlaceLists.{over-length, over-get, over-cong, over-put}
 use Rattle.stored_plan.specs.Reading.{filled}
 
--- one place more
-pub fill-next : (i : ℕ) (f : ℕ → ℕ) (table₀ table : List ℕ) → table ≡ filled i f table₀ → (v : ℕ) → v ≡ f i → set table i v ≡ filled (i + 1) f table₀
+pub fill-next : (i : ℕ) (f : ℕ → ℕ) (table₀ table : List ℕ) → table ≡ filled i f table₀ → (v : ℕ) → v ≡ f i
+    → set table i v ≡ filled (i + 1) f table₀
 unfolding filled
 fill-next i f table₀ table e v g = rw (e, g, add-one i) (over-put i (λ k _. f k) table₀ 0)
 

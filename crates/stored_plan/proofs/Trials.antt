@@ -19,5 +19,8 @@ pub trials : (length planFBytes ≡ 44) × (encoded planF ≡ planFBytes) × (de
     × (written planF (replicate 43 9) ≡ record { refusal = 12; size = 0 }) × (bytesAfter planF (replicate 43 9) ≡ replicate 43 9)
     × (written planF (replicate 46 9) ≡ record { refusal = 0; size = 44 }) × (bytesAfter planF (replicate 46 9) ≡ planFBytes ++ replicate 2 9)
     × (written noPlan [] ≡ record { refusal = 1; size = 0 })
-unfolding planF planFBytes encoded header thresholdEntries bucketEntries bucketOffset formSize toLE fromLE field joinTo overTo filled countIn bucketsIn planIn offsetsFit lengthFits formRefusal readRefusal decoded million allowanceLimit horizonLimit le? eq? allTo anyTo rule1 aboveBefore rule2 rule3 rule4 permitted bucketFits rule5 goesOnAt rule6 planRefusal damaged damages noPlan writeRefusal written bytesAfter
+unfolding planF planFBytes encoded header thresholdEntries bucketEntries bucketOffset formSize toLE fromLE field joinTo overTo
+    filled countIn bucketsIn planIn offsetsFit lengthFits formRefusal readRefusal decoded million allowanceLimit horizonLimit le?
+    eq? allTo anyTo rule1 aboveBefore rule2 rule3 rule4 permitted bucketFits rule5 goesOnAt rule6 planRefusal damaged damages
+    noPlan writeRefusal written bytesAfter
 trials = (refl, refl, refl, refl, refl, refl, refl, refl, refl)

@@ -99,7 +99,8 @@ fn long_fields_in(
 
 // The plan of a form that its counts and its length fit.
 fn plan_in(bytes: &[u8]) -> Plan
-    requires { ⌜ (countIn (now bytes) ≤ 10) × (bucketsIn (now bytes) ≤ 16) × (length (now bytes) ≡ formSize (countIn (now bytes)) (bucketsIn (now bytes))) ⌝ }
+    requires { ⌜ (countIn (now bytes) ≤ 10) × (bucketsIn (now bytes) ≤ 16)
+        × (length (now bytes) ≡ formSize (countIn (now bytes)) (bucketsIn (now bytes))) ⌝ }
     ensures { λ r. ⌜ r ≡ planIn (now (bytes .entry)) ⌝ }
 {
     let count = read_u32(bytes, 0, 2);

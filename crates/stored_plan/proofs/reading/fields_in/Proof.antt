@@ -29,7 +29,7 @@ add-read-u32 : tie.Need-add-read-u32 Inv-loop μ-loop
 add-read-u32 c = record { fits = omega (arith, c .before .before .before .before .pre .2 (c .before .loop .i) (c .loop-test .taken)) }
 
 read-u32-requires : tie.Need-read-u32-requires Inv-loop μ-loop
-read-u32-requires c κs = (c .before .before .before .before .pre .2 (c .before .loop .i) (c .loop-test .taken), c .before .before .before .before .pre .0)
+read-u32-requires c κs = let pre = c .before .before .before .before .pre in (pre .2 (c .before .loop .i) (c .loop-test .taken), pre .0)
 
 mul-table : tie.Need-mul-table Inv-loop μ-loop
 mul-table c = search needs

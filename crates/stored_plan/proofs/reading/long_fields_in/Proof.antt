@@ -29,7 +29,7 @@ add-read-le : tie.Need-add-read-le Inv-loop μ-loop
 add-read-le c = record { fits = omega (arith, c .before .before .before .before .pre .2 (c .before .loop .i) (c .loop-test .taken)) }
 
 read-le-requires : tie.Need-read-le-requires Inv-loop μ-loop
-read-le-requires c κs = (c .before .before .before .before .pre .2 (c .before .loop .i) (c .loop-test .taken), c .before .before .before .before .pre .0)
+read-le-requires c κs = let pre = c .before .before .before .before .pre in (pre .2 (c .before .loop .i) (c .loop-test .taken), pre .0)
 
 mul-table : tie.Need-mul-table Inv-loop μ-loop
 mul-table c = search needs

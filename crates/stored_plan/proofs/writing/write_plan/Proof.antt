@@ -61,7 +61,8 @@ write-long-pairs-requires c κs =
 
 write-pairs-requires : tie.Need-write-pairs-requires
 write-pairs-requires c κs =
-    let to-header = c .before .before .before .before .before .before .before .before .before .before .before .before .before .before .before .before .before in
+    let to-thresholds = c .before .before .before .before .before .before .before .before in
+    let to-header = to-thresholds .before .before .before .before .before .before .before .before .before in
     let a = kept (to-header .before .before .before) in
     (search needs, search needs, omega arith)
 
@@ -79,7 +80,8 @@ returns-3 c =
     let r = to-size .before .before .plan-refusal in
     let z = to-size .before .if1 .left in
     let w = written-none (a .t1) (a .bytes .now) (room (a .t1) (a .bytes .now) (r .result) (r .ensures) z (to-size .if2 .left)) in
-    let put = put-form (a .t1) (a .bytes .now) _ _ _ (to-header .write-header .ensures) (to-thresholds .write-long-pairs .ensures) (to-buckets .write-pairs .ensures) in
+    let head = to-header .write-header .ensures in
+    let put = put-form (a .t1) (a .bytes .now) _ _ _ head (to-thresholds .write-long-pairs .ensures) (to-buckets .write-pairs .ensures) in
     (rw z (w .0), put ∙ w .1)
 
 pub write-plan-spec : {M : Type 1} → statement M
