@@ -115,6 +115,12 @@ module _ (p : Plan) (bytes : List ℕ) where
   abbrev size : ℕ
   size = formSize (p .count) (p .buckets)
 
+  pub writable : (writeRefusal p bytes ≡ 0) ↔ ((planRefusal p ≡ 0) × (size ≤ length bytes))
+  unfolding writeRefusal
+  writable =
+      let fits = last-says (le? size (length bytes)) 11 (le-reads size (length bytes)) in
+      none-both (planRefusal p) (unless (le? size (length bytes)) 12 ∷ []) (λ e. e, λ e. e) fits
+
   pub written-none : writeRefusal p bytes ≡ 0
       → (record { refusal = 0; size = size } ≡ written p bytes) × (encoded p ++ drop size bytes ≡ bytesAfter p bytes)
   unfolding written bytesAfter

@@ -14,9 +14,10 @@ use Rattle.bucket_test.proofs.Ignored.{ignored}
 use Rattle.stored_plan.specs.Form.{bucketOffset, formSize, header, thresholdEntries, bucketEntries, encoded}
 use Rattle.stored_plan.specs.Reading.{filled, planIn, readRefusal, noPlan, decodedBy, decoded}
 use Rattle.stored_plan.specs.Writing.{writeRefusal, writtenBy, bytesBy, written, bytesAfter}
-use Rattle.stored_plan.specs.RoundTrip.{PlanBack, BytesBack, FormLength, AcceptedForms, FormWritten, NoneOnRefusal, IgnoredInForm, Zeros}
+use Rattle.stored_plan.specs.RoundTrip.{PlanBack, BytesBack, FormLength, AcceptedForms, AcceptedWritings, FormWritten}
+use Rattle.stored_plan.specs.RoundTrip.{NoneOnRefusal, IgnoredInForm, Zeros}
 use Rattle.stored_plan.proofs.FormLaws.{encoded-length}
-use Rattle.stored_plan.proofs.Refusals.{readable, decoded-none, decoded-some, written-none, written-some}
+use Rattle.stored_plan.proofs.Refusals.{readable, decoded-none, decoded-some, writable, written-none, written-some}
 use Rattle.stored_plan.proofs.ReadingLaws.{filled-past}
 use Rattle.stored_plan.proofs.PlanBack.{same, plan-back, form-read}
 use Rattle.stored_plan.proofs.BytesBack.{bytes-back}
@@ -60,6 +61,9 @@ accepted-forms-hold bytes each = (
   λ e. let z = sym (read-refusal bytes) ∙ e in (planIn bytes, readable bytes .0 z .accepted, sym (bytes-back bytes each z)),
   λ s. read-refusal bytes ∙ rw (s .2) (form-read (s .0) (accepted (s .0) .0 (s .1))),
 )
+
+pub accepted-writings-hold : AcceptedWritings
+accepted-writings-hold p bytes = rw (write-refusal p bytes, encoded-length p) (writable p bytes)
 
 pub form-written-holds : FormWritten
 form-written-holds p bytes e =

@@ -42,6 +42,10 @@ FormLength = (p : Plan) → planRefusal p ≡ 0 → (length (encoded p) ≡ form
 abbrev pub AcceptedForms : Type 0
 AcceptedForms = (bytes : List ℕ) → Bytes bytes → (decoded bytes .refusal ≡ 0) ↔ ((p : Plan) × (planRefusal p ≡ 0) × (bytes ≡ encoded p))
 
+-- writing accepts exactly the accepted plans whose form is no longer than the lent bytes
+abbrev pub AcceptedWritings : Type 0
+AcceptedWritings = (p : Plan) (bytes : List ℕ) → (written p bytes .refusal ≡ 0) ↔ ((planRefusal p ≡ 0) × (length (encoded p) ≤ length bytes))
+
 -- of lent bytes, so many as are handed back are the form, and the others keep their contents
 abbrev pub FormWritten : Type 0
 FormWritten = (p : Plan) (bytes : List ℕ) → written p bytes .refusal ≡ 0
