@@ -9,7 +9,7 @@ use lib.Seq.{drop-drop, take-add, take-all}
 use Rattle.bucket_test.specs.Tests.{joinTo}
 use Rattle.bucket_test.specs.Plan.{thresholdAt, allowanceAt, leftAt, rightAt}
 use Rattle.bucket_test.proofs.PlaceLists.{join-cong}
-use Rattle.stored_plan.specs.Little.{toLE, field, Bytes}
+use Rattle.stored_plan.specs.Little.{toLE, field, column, Bytes}
 use Rattle.stored_plan.specs.Form.{headerSize, bucketOffset, formSize, header, thresholdEntries, bucketEntries, encoded}
 use Rattle.stored_plan.specs.Reading.{countIn, bucketsIn, planIn, readRefusal}
 use Rattle.stored_plan.proofs.LittleLaws.{to-field}
@@ -63,26 +63,32 @@ module _ (bytes : List ℕ) where
             part-join 2 2 12,
           ) (part-join 0 2 14)
 
-      entry-part : (i : ℕ) → i < countIn bytes → toLE 4 (thresholdAt (planIn bytes) i) ++ toLE 8 (allowanceAt (planIn bytes) i) ≡ part (headerSize + 12 * i) 12
+      entry-part : (i : ℕ) → i < countIn bytes
+          → toLE 4 (thresholdAt (planIn bytes) i) ++ toLE 8 (allowanceAt (planIn bytes) i) ≡ part (headerSize + 12 * i) 12
       unfolding planIn formSize bucketOffset
       entry-part i l =
+          let second : headerSize + 4 + 12 * i ≡ headerSize + 12 * i + 4 = omega arith in
           rw (
-            filled-get 10 (countIn bytes) (λ i. field 4 (headerSize + 12 * i) bytes) k i l,
-            filled-get 10 (countIn bytes) (λ i. field 8 (headerSize + 12 * i + 4) bytes) k i l,
+            filled-get 10 (countIn bytes) (column 4 headerSize 12 bytes) k i l,
+            filled-get 10 (countIn bytes) (column 8 (headerSize + 4) 12 bytes) k i l,
+            second,
             field-part 4 (headerSize + 12 * i) (omega arith),
             field-part 8 (headerSize + 12 * i + 4) (omega arith),
           ) (part-join (headerSize + 12 * i) 4 8)
 
-      ends-part : (j : ℕ) → j < bucketsIn bytes → toLE 4 (leftAt (planIn bytes) j) ++ toLE 4 (rightAt (planIn bytes) j) ≡ part (bucketOffset (countIn bytes) + 8 * j) 8
+      ends-part : (j : ℕ) → j < bucketsIn bytes
+          → toLE 4 (leftAt (planIn bytes) j) ++ toLE 4 (rightAt (planIn bytes) j) ≡ part (bucketOffset (countIn bytes) + 8 * j) 8
       unfolding planIn formSize
       ends-part j l =
-          let at = bucketOffset (countIn bytes) + 8 * j in
+          let at = bucketOffset (countIn bytes) in
+          let second : at + 4 + 8 * j ≡ at + 8 * j + 4 = omega arith in
           rw (
-            filled-get 16 (bucketsIn bytes) (λ j. field 4 (bucketOffset (countIn bytes) + 8 * j) bytes) b j l,
-            filled-get 16 (bucketsIn bytes) (λ j. field 4 (bucketOffset (countIn bytes) + 8 * j + 4) bytes) b j l,
-            field-part 4 at (omega arith),
-            field-part 4 (at + 4) (omega arith),
-          ) (part-join at 4 4)
+            filled-get 16 (bucketsIn bytes) (column 4 at 8 bytes) b j l,
+            filled-get 16 (bucketsIn bytes) (column 4 (at + 4) 8 bytes) b j l,
+            second,
+            field-part 4 (at + 8 * j) (omega arith),
+            field-part 4 (at + 8 * j + 4) (omega arith),
+          ) (part-join (at + 8 * j) 4 4)
 
       form-whole : encoded (planIn bytes) ≡ bytes
       unfolding encoded thresholdEntries bucketEntries formSize bucketOffset planIn
@@ -101,4 +107,4 @@ module _ (bytes : List ℕ) where
 
     pub bytes-back : readRefusal bytes ≡ 0 → encoded (planIn bytes) ≡ bytes
     unfolding planIn
-    bytes-back e = let s = readable bytes .0 e in form-whole (s .1 .0 .0 .1) (s .1 .0 .1 .1) (s .1 .1 .0) (s .1 .1 .1 .0)
+    bytes-back e = let s = readable bytes .0 e in form-whole (s .counts .0 .1) (s .counts .1 .1) (s .offsets) (s .sized)

@@ -6,34 +6,30 @@ use Prim.Native.Nat.{ℕ, zero, suc, _+_, _*_, _≤_, _<_}
 use native.Mathlib.Nat.{eq-or-lt-of-le, mul-zero, mul-suc}
 use native.Mathlib.Numerals.{add-one}
 use native.Mathlib.Omega.{arith}
-use lib.ListN.{length, drop, length-append}
+use lib.ListN.{length, drop, getD, length-append}
 use Rattle.bucket_test.specs.Tests.{joinTo}
-use Rattle.bucket_test.specs.Plan.{thresholdAt, allowanceAt, leftAt, rightAt}
 use Rattle.bucket_test.specs.declared.Plan.{Plan}
 use Rattle.stored_plan.specs.Little.{toLE, field, putAt}
-use Rattle.stored_plan.specs.Form.{headerSize, bucketOffset, formSize, header, thresholdEntries, bucketEntries, encoded}
+use Rattle.stored_plan.specs.Form.{pair, headerSize, bucketOffset, formSize, header, thresholdEntries, bucketEntries, encoded}
 use Rattle.stored_plan.proofs.LittleLaws.{to-length, field-left, field-right}
 use Rattle.stored_plan.proofs.Putting.{put-first, then}
 
--- an entry of two numbers
-pub two-length : (m v n w : ℕ) → length (toLE m v ++ toLE n w) ≡ m + n
-two-length m v n w = rw (length-append (toLE m v) (toLE n w), to-length m v, to-length n w)
-
 module _ (g : ℕ → List ℕ) (size : ℕ) (each : (i : ℕ) → length (g i) ≡ size) where
-  pub join-size : (n : ℕ) → length (joinTo n g) ≡ size * n
+  join-size : (n : ℕ) → length (joinTo n g) ≡ size * n
   unfolding joinTo
   join-size zero = sym (mul-zero size)
   join-size (suc n) = omega (arith, length-append (joinTo n g) (g n), join-size n, each n, mul-suc size n)
 
   -- one entry more, behind those that a loop has put from an offset on
-  pub put-next : (at i : ℕ) (bytes bytes′ bytes″ : List ℕ) → bytes′ ≡ putAt at (joinTo i g) bytes → bytes″ ≡ putAt (at + size * i) (g i) bytes′
+  put-next : (at i : ℕ) (bytes bytes′ bytes″ : List ℕ) → bytes′ ≡ putAt at (joinTo i g) bytes → bytes″ ≡ putAt (at + size * i) (g i) bytes′
       → at ≤ length bytes → bytes″ ≡ putAt at (joinTo (i + 1) g) bytes
   unfolding joinTo
   put-next at i bytes bytes′ bytes″ e f h =
       rw (add-one i) (then at (joinTo i g) (g i) bytes bytes′ bytes″ (at + size * i) e f h (rw (join-size i)))
 
   -- a number of entry i, with more behind
-  pub join-field : (n : ℕ) (r : List ℕ) (i width o : ℕ) → i < n → o + width ≤ size → field width (size * i + o) (joinTo n g ++ r) ≡ field width o (g i)
+  pub join-field : (n : ℕ) (r : List ℕ) (i width o : ℕ) → i < n → o + width ≤ size
+      → field width (size * i + o) (joinTo n g ++ r) ≡ field width o (g i)
   unfolding joinTo
   join-field zero r i width o l h = absurd (omega arith)
   join-field (suc n) r i width o l h =
@@ -44,6 +40,16 @@ module _ (g : ℕ → List ℕ) (size : ℕ) (each : (i : ℕ) → length (g i) 
       rw f (field-right width o (joinTo n g) (g n ++ r) (size * n) (join-size n) ∙ field-left width o (g n) r (omega (arith, each n))))
       (λ k. join-field n (g n ++ r) i width o (omega arith) h)
       (eq-or-lt-of-le l))
+
+-- entries of two numbers
+module _ (m n : ℕ) (xs ys : List ℕ) where
+  pub pair-length : (i : ℕ) → length (pair m n xs ys i) ≡ m + n
+  pair-length i = rw (length-append (toLE m (getD xs i 0)) (toLE n (getD ys i 0)), to-length m (getD xs i 0), to-length n (getD ys i 0))
+
+  pub put-pair : (at i : ℕ) (bytes bytes′ bytes″ : List ℕ) → bytes′ ≡ putAt at (joinTo i (pair m n xs ys)) bytes
+      → bytes″ ≡ putAt (at + (m + n) * i) (pair m n xs ys i) bytes′ → at ≤ length bytes
+      → bytes″ ≡ putAt at (joinTo (i + 1) (pair m n xs ys)) bytes
+  put-pair = put-next (pair m n xs ys) (m + n) pair-length
 
 pub header-fits : (count buckets : ℕ) → headerSize ≤ formSize count buckets
 unfolding formSize bucketOffset
@@ -56,11 +62,16 @@ module _ (p : Plan) where
 
   pub thresholds-length : length (thresholdEntries p) ≡ 12 * p .count
   unfolding thresholdEntries
-  thresholds-length = join-size _ 12 (λ i. two-length 4 (thresholdAt p i) 8 (allowanceAt p i)) (p .count)
+  thresholds-length = join-size _ 12 (pair-length 4 8 (p .thresholds) (p .allowances)) (p .count)
 
-  pub buckets-length : length (bucketEntries p) ≡ 8 * p .buckets
+  -- the parts before the buckets
+  pub front-length : length (header p ++ thresholdEntries p) ≡ bucketOffset (p .count)
+  unfolding bucketOffset
+  front-length = omega (arith, length-append (header p) (thresholdEntries p), header-length, thresholds-length)
+
+  buckets-length : length (bucketEntries p) ≡ 8 * p .buckets
   unfolding bucketEntries
-  buckets-length = join-size _ 8 (λ j. two-length 4 (leftAt p j) 4 (rightAt p j)) (p .buckets)
+  buckets-length = join-size _ 8 (pair-length 4 4 (p .left) (p .right)) (p .buckets)
 
   pub encoded-length : length (encoded p) ≡ formSize (p .count) (p .buckets)
   unfolding encoded formSize bucketOffset
@@ -68,11 +79,14 @@ module _ (p : Plan) where
       simp length-append (omega (arith, header-length, thresholds-length, buckets-length))
 
   -- the three parts put, one behind the other
-  pub put-form : (bytes bytes′ bytes″ bytes‴ : List ℕ) → bytes′ ≡ putAt 0 (header p) bytes → bytes″ ≡ putAt headerSize (thresholdEntries p) bytes′
-      → bytes‴ ≡ putAt (bucketOffset (p .count)) (bucketEntries p) bytes″ → bytes‴ ≡ encoded p ++ drop (formSize (p .count) (p .buckets)) bytes
-  unfolding encoded bucketOffset
+  pub put-form : (bytes bytes′ bytes″ bytes‴ : List ℕ) → bytes′ ≡ putAt 0 (header p) bytes
+      → bytes″ ≡ putAt headerSize (thresholdEntries p) bytes′ → bytes‴ ≡ putAt (bucketOffset (p .count)) (bucketEntries p) bytes″
+      → bytes‴ ≡ encoded p ++ drop (formSize (p .count) (p .buckets)) bytes
+  unfolding encoded
   put-form bytes bytes′ bytes″ bytes‴ e f g =
       let two = then 0 (header p) (thresholdEntries p) bytes bytes′ bytes″ headerSize e f (omega arith) (omega (arith, header-length)) in
-      let at : bucketOffset (p .count) ≡ 0 + length (header p ++ thresholdEntries p) = omega (arith, length-append (header p) (thresholdEntries p), header-length, thresholds-length) in
-      then 0 (header p ++ thresholdEntries p) (bucketEntries p) bytes bytes″ bytes‴ (bucketOffset (p .count)) two g (omega arith) at
-      ∙ rw (append-assoc (header p) (thresholdEntries p) (bucketEntries p)) (put-first (encoded p) bytes ∙ ap (λ (n : ℕ). encoded p ++ drop n bytes) encoded-length)
+      let front = header p ++ thresholdEntries p in
+      let whole : bytes‴ ≡ putAt 0 (front ++ bucketEntries p) bytes =
+      then 0 front (bucketEntries p) bytes bytes″ bytes‴ (bucketOffset (p .count)) two g (omega arith) (omega (arith, front-length)) in
+      let tail = ap (λ (n : ℕ). encoded p ++ drop n bytes) encoded-length in
+      whole ∙ rw (append-assoc (header p) (thresholdEntries p) (bucketEntries p)) (put-first (encoded p) bytes ∙ tail)

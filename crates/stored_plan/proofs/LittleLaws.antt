@@ -29,7 +29,8 @@ unfolding toLE fromLE
 to-from [] h = refl
 to-from (b ∷ bs) h =
     let low : (b + 256 * fromLE bs) % 256 ≡ b = add-mul-mod-self-left b 256 (fromLE bs) ∙ mod-eq-of-lt (h 0) in
-    let high : (b + 256 * fromLE bs) / 256 ≡ fromLE bs = add-mul-div-left b (fromLE bs) {y = 256} (omega arith) ∙ rw (div-eq-of-lt (h 0)) (omega arith) in
+    let high : (b + 256 * fromLE bs) / 256 ≡ fromLE bs =
+    add-mul-div-left b (fromLE bs) {y = 256} (omega arith) ∙ rw (div-eq-of-lt (h 0)) (omega arith) in
     ap₂ _∷_ low (ap (toLE (length bs)) high ∙ to-from bs (λ i. h (suc i)))
 
 -- a field that is read, as bytes
@@ -38,7 +39,9 @@ module _ (bytes : List ℕ) (each : Bytes bytes) (width at : ℕ) where
   field-bytes i = ⊎-elim past (λ h. rw (getD-take width (drop at bytes) i 0 h, getD-drop at bytes i 0) (each (at + i))) (le-or-lt width i)
     where
       past : width ≤ i → getD (take width (drop at bytes)) i 0 < 256
-      past h = rw (List·getD-eq-default (take width (drop at bytes)) 0 {n = i} (omega (arith, length-take width (drop at bytes)))) (omega arith)
+      past h =
+          let taken = take width (drop at bytes) in
+          rw (List·getD-eq-default taken 0 {n = i} (omega (arith, length-take width (drop at bytes)))) (omega arith)
 
   pub to-field : at + width ≤ length bytes → toLE width (field width at bytes) ≡ take width (drop at bytes)
   unfolding field
@@ -60,8 +63,8 @@ unfolding fromLE
 from-cons bytes at width i h g =
     let l = take width (drop at bytes) in
     let len : length l ≡ width = length-take-le width (drop at bytes) (omega (arith, length-drop at bytes)) in
-    let e = drop-cons l i 0 (omega arith) ∙ ap (λ (b : ℕ). b ∷ drop (suc i) l) (getD-take width (drop at bytes) i 0 h ∙ getD-drop at bytes i 0) in
-    ap fromLE e ∙ omega arith
+    let low = getD-take width (drop at bytes) i 0 h ∙ getD-drop at bytes i 0 in
+    ap fromLE (drop-cons l i 0 (omega arith) ∙ ap (λ (b : ℕ). b ∷ drop (suc i) l) low) ∙ omega arith
 
 -- ---- fields of joined lists
 

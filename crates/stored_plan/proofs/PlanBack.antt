@@ -1,21 +1,21 @@
 -- An accepted plan's form is read back: the plan with zeros past its counts. Assumes nothing.
 use mathlib.Core.Path.{_≡_, refl, _∙_}
-use mathlib.Core.List.{List, [], _++_, append-assoc, append-nil}
+use mathlib.Core.List.{[], _++_, append-assoc, append-nil}
 use mathlib.Core.Logic.{inl, inr}
 use Prim.Native.Nat.{ℕ, _+_, _*_, _≤_, _<_}
 use native.Mathlib.Omega.{arith}
-use lib.ListN.{length, length-append}
+use lib.ListN.{replicate}
 use Rattle.walk.specs.Units.{million, allowanceLimit, horizonLimit}
 use Rattle.bucket_test.specs.Plan.{thresholdAt, allowanceAt, leftAt, rightAt, Permitted, Accepted}
 use Rattle.bucket_test.specs.declared.Plan.{Plan}
 use Rattle.bucket_test.proofs.Rules.{accepted}
 use Rattle.bucket_test.proofs.Ignored.{ignored}
 use Rattle.stored_plan.specs.Little.{toLE, field}
-use Rattle.stored_plan.specs.Form.{headerSize, bucketOffset, header, thresholdEntries, bucketEntries, encoded}
+use Rattle.stored_plan.specs.Form.{pair, headerSize, bucketOffset, header, thresholdEntries, bucketEntries, encoded}
 use Rattle.stored_plan.specs.Reading.{filled, countIn, bucketsIn, planIn, readRefusal}
 use Rattle.stored_plan.specs.RoundTrip.{Same}
 use Rattle.stored_plan.proofs.LittleLaws.{field-right, field-next, field-here, field-last}
-use Rattle.stored_plan.proofs.FormLaws.{two-length, join-field, header-length, thresholds-length, encoded-length, header-fits}
+use Rattle.stored_plan.proofs.FormLaws.{pair-length, join-field, header-length, front-length, encoded-length, header-fits}
 use Rattle.stored_plan.proofs.ReadingLaws.{filled-length, filled-get, filled-past, filled-cong}
 use Rattle.stored_plan.proofs.Refusals.{readable}
 
@@ -26,10 +26,10 @@ counted p = record {
   buckets = p .buckets;
   delay = p .delay;
   horizon = p .horizon;
-  thresholds = filled 10 (p .count) (thresholdAt p);
-  allowances = filled 10 (p .count) (allowanceAt p);
-  left = filled 16 (p .buckets) (leftAt p);
-  right = filled 16 (p .buckets) (rightAt p);
+  thresholds = filled (p .count) (thresholdAt p) (replicate 10 0);
+  allowances = filled (p .count) (allowanceAt p) (replicate 10 0);
+  left = filled (p .buckets) (leftAt p) (replicate 16 0);
+  right = filled (p .buckets) (rightAt p) (replicate 16 0);
 }
 
 -- ---- it is the same plan
@@ -62,14 +62,10 @@ module _ (p : Plan) (a : Accepted p) where
   permitted-le e (inr (inl z)) = omega arith
   permitted-le e (inr (inr (i, l, z))) = omega (arith, a .threshold-range i l .1)
 
-  abbrev entry : ℕ → List ℕ
-  entry i = toLE 4 (thresholdAt p i) ++ toLE 8 (allowanceAt p i)
-
-  abbrev ends : ℕ → List ℕ
-  ends j = toLE 4 (leftAt p j) ++ toLE 4 (rightAt p j)
-
   -- the fields of the header, one behind the other
-  unrolled : encoded p ≡ toLE 2 (p .count) ++ (toLE 2 (p .buckets) ++ (toLE 2 headerSize ++ (toLE 2 (bucketOffset (p .count)) ++ (toLE 4 (p .delay) ++ (toLE 4 (p .horizon) ++ (thresholdEntries p ++ bucketEntries p))))))
+  unrolled : encoded p
+      ≡ toLE 2 (p .count) ++ (toLE 2 (p .buckets) ++ (toLE 2 headerSize ++ (toLE 2 (bucketOffset (p .count))
+      ++ (toLE 4 (p .delay) ++ (toLE 4 (p .horizon) ++ (thresholdEntries p ++ bucketEntries p))))))
   unfolding encoded header
   unrolled = simp append-assoc
 
@@ -100,44 +96,48 @@ module _ (p : Plan) (a : Accepted p) where
   in-horizon =
       rw unrolled
       (field-next 4 10 2 (p .count) _ ∙ field-next 4 8 2 (p .buckets) _ ∙ field-next 4 6 2 headerSize _
-      ∙ field-next 4 4 2 (bucketOffset (p .count)) _ ∙ field-next 4 0 4 (p .delay) _ ∙ field-here 4 (p .horizon) _ (omega (arith, a .horizon-range .1)))
+      ∙ field-next 4 4 2 (bucketOffset (p .count)) _ ∙ field-next 4 0 4 (p .delay) _
+      ∙ field-here 4 (p .horizon) _ (omega (arith, a .horizon-range .1)))
 
   -- a field of entry i, of bucket j
-  in-entry : (i width o at : ℕ) → i < p .count → o + width ≤ 12 → at ≡ headerSize + (12 * i + o) → field width at (encoded p) ≡ field width o (entry i)
+  in-entry : (i width o at : ℕ) → i < p .count → o + width ≤ 12 → at ≡ headerSize + (12 * i + o)
+      → field width at (encoded p) ≡ field width o (pair 4 8 (p .thresholds) (p .allowances) i)
   unfolding encoded thresholdEntries
   in-entry i width o at l h e =
       rw e
       (field-right width (12 * i + o) (header p) (thresholdEntries p ++ bucketEntries p) headerSize (header-length p)
-      ∙ join-field entry 12 (λ k. two-length 4 (thresholdAt p k) 8 (allowanceAt p k)) (p .count) (bucketEntries p) i width o l h)
+      ∙ join-field _ 12 (pair-length 4 8 (p .thresholds) (p .allowances)) (p .count) (bucketEntries p) i width o l h)
 
-  in-ends : (j width o at : ℕ) → j < p .buckets → o + width ≤ 8 → at ≡ bucketOffset (p .count) + (8 * j + o) → field width at (encoded p) ≡ field width o (ends j)
-  unfolding encoded bucketEntries bucketOffset
+  in-ends : (j width o at : ℕ) → j < p .buckets → o + width ≤ 8 → at ≡ bucketOffset (p .count) + (8 * j + o)
+      → field width at (encoded p) ≡ field width o (pair 4 4 (p .left) (p .right) j)
+  unfolding encoded bucketEntries
   in-ends j width o at l h e =
-      let before : length (header p ++ thresholdEntries p) ≡ bucketOffset (p .count) = omega (arith, length-append (header p) (thresholdEntries p), header-length p, thresholds-length p) in
       rw (e, ← append-assoc (header p) (thresholdEntries p) (bucketEntries p))
-      (field-right width (8 * j + o) (header p ++ thresholdEntries p) (bucketEntries p) (bucketOffset (p .count)) before
-      ∙ rw append-nil at (join-field ends 8 (λ k. two-length 4 (leftAt p k) 4 (rightAt p k)) (p .buckets) [] j width o l h))
+      (field-right width (8 * j + o) (header p ++ thresholdEntries p) (bucketEntries p) (bucketOffset (p .count)) (front-length p)
+      ∙ rw append-nil at (join-field (pair 4 4 (p .left) (p .right)) 8 (pair-length 4 4 (p .left) (p .right)) (p .buckets) [] j width o l h))
 
   in-threshold : (i : ℕ) → i < p .count → field 4 (headerSize + 12 * i) (encoded p) ≡ thresholdAt p i
   in-threshold i l =
       in-entry i 4 0 (headerSize + 12 * i) l (omega arith) (omega arith)
       ∙ field-here 4 (thresholdAt p i) (toLE 8 (allowanceAt p i)) (omega (arith, a .threshold-range i l .1))
 
-  in-allowance : (i : ℕ) → i < p .count → field 8 (headerSize + 12 * i + 4) (encoded p) ≡ allowanceAt p i
+  in-allowance : (i : ℕ) → i < p .count → field 8 (headerSize + 4 + 12 * i) (encoded p) ≡ allowanceAt p i
   unfolding allowanceLimit
   in-allowance i l =
-      in-entry i 8 4 (headerSize + 12 * i + 4) l (omega arith) (omega arith)
-      ∙ field-next 8 0 4 (thresholdAt p i) (toLE 8 (allowanceAt p i)) ∙ field-last 8 (allowanceAt p i) (omega (arith, a .allowance-range i l .1))
+      in-entry i 8 4 (headerSize + 4 + 12 * i) l (omega arith) (omega arith)
+      ∙ field-next 8 0 4 (thresholdAt p i) (toLE 8 (allowanceAt p i))
+      ∙ field-last 8 (allowanceAt p i) (omega (arith, a .allowance-range i l .1))
 
   in-left : (j : ℕ) → j < p .buckets → field 4 (bucketOffset (p .count) + 8 * j) (encoded p) ≡ leftAt p j
   in-left j l =
       in-ends j 4 0 (bucketOffset (p .count) + 8 * j) l (omega arith) (omega arith)
       ∙ field-here 4 (leftAt p j) (toLE 4 (rightAt p j)) (omega (arith, permitted-le (leftAt p j) (a .ends-permitted j l .0)))
 
-  in-right : (j : ℕ) → j < p .buckets → field 4 (bucketOffset (p .count) + 8 * j + 4) (encoded p) ≡ rightAt p j
+  in-right : (j : ℕ) → j < p .buckets → field 4 (bucketOffset (p .count) + 4 + 8 * j) (encoded p) ≡ rightAt p j
   in-right j l =
-      in-ends j 4 4 (bucketOffset (p .count) + 8 * j + 4) l (omega arith) (omega arith)
-      ∙ field-next 4 0 4 (leftAt p j) (toLE 4 (rightAt p j)) ∙ field-last 4 (rightAt p j) (omega (arith, permitted-le (rightAt p j) (a .ends-permitted j l .1)))
+      in-ends j 4 4 (bucketOffset (p .count) + 4 + 8 * j) l (omega arith) (omega arith)
+      ∙ field-next 4 0 4 (leftAt p j) (toLE 4 (rightAt p j))
+      ∙ field-last 4 (rightAt p j) (omega (arith, permitted-le (rightAt p j) (a .ends-permitted j l .1)))
 
   -- ---- the plan that its form holds
 
@@ -149,10 +149,10 @@ module _ (p : Plan) (a : Accepted p) where
         in-buckets,
         in-delay,
         in-horizon,
-        filled-cong 10 (p .count) _ (thresholdAt p) in-threshold,
-        filled-cong 10 (p .count) _ (allowanceAt p) in-allowance,
-        filled-cong 16 (p .buckets) _ (leftAt p) in-left,
-        filled-cong 16 (p .buckets) _ (rightAt p) in-right,
+        filled-cong (p .count) _ (thresholdAt p) (replicate 10 0) in-threshold,
+        filled-cong (p .count) _ (allowanceAt p) (replicate 10 0) in-allowance,
+        filled-cong (p .buckets) _ (leftAt p) (replicate 16 0) in-left,
+        filled-cong (p .buckets) _ (rightAt p) (replicate 16 0) in-right,
       )
 
   pub form-read : readRefusal (encoded p) ≡ 0
@@ -160,10 +160,10 @@ module _ (p : Plan) (a : Accepted p) where
   form-read =
       let e = ignored p (counted p) (same p (a .count-range .1) (a .buckets-range .1) .counted-same) .refusal-same ∙ accepted p .1 a in
       let q = accepted (counted p) .0 e in
-      readable (encoded p) .1 (
-        rw (encoded-length p) (header-fits (p .count) (p .buckets)),
-        (
-          rw plan-back (q .count-range, q .buckets-range),
-          ((in-first, rw in-count in-second), (rw (in-count, in-buckets) (encoded-length p), rw plan-back e)),
-        ),
-      )
+      readable (encoded p) .1 record {
+        long = rw (encoded-length p) (header-fits (p .count) (p .buckets));
+        counts = rw plan-back (q .count-range, q .buckets-range);
+        offsets = (in-first, rw in-count in-second);
+        sized = rw (in-count, in-buckets) (encoded-length p);
+        accepted = rw plan-back e;
+      }

@@ -17,7 +17,8 @@ module _ (at : ℕ) where
   unfolding putAt
   put-none bytes = let z : at + 0 ≡ at = omega arith in rw (z, take-append-drop)
 
-  pub put-put : (xs ys bytes : List ℕ) (m : ℕ) → at ≤ length bytes → m ≡ at + length xs → putAt m ys (putAt at xs bytes) ≡ putAt at (xs ++ ys) bytes
+  put-put : (xs ys bytes : List ℕ) (m : ℕ) → at ≤ length bytes → m ≡ at + length xs
+      → putAt m ys (putAt at xs bytes) ≡ putAt at (xs ++ ys) bytes
   unfolding putAt
   put-put xs ys bytes m h e =
       let p = take at bytes in
@@ -27,14 +28,14 @@ module _ (at : ℕ) where
       let whole : p ++ (xs ++ d) ≡ (p ++ xs) ++ d = sym (append-assoc p xs d) in
       let front : take m (p ++ (xs ++ d)) ≡ p ++ xs = ap (take m) whole ∙ take-at (p ++ xs) d m len in
       let tail : drop (m + length ys) (p ++ (xs ++ d)) ≡ drop (at + length (xs ++ ys)) bytes =
-      ap (drop (m + length ys)) whole ∙ ap (λ (k : ℕ). drop (k + length ys) ((p ++ xs) ++ d)) (sym len) ∙ drop-append-add (p ++ xs) d (length ys)
-      ∙ drop-drop (length ys) (at + length xs) bytes ∙ ap (λ (k : ℕ). drop k bytes) sum in
+      ap (drop (m + length ys)) whole ∙ ap (λ (k : ℕ). drop (k + length ys) ((p ++ xs) ++ d)) (sym len)
+      ∙ drop-append-add (p ++ xs) d (length ys) ∙ drop-drop (length ys) (at + length xs) bytes ∙ ap (λ (k : ℕ). drop k bytes) sum in
       ap₂ (λ (a r : List ℕ). a ++ (ys ++ r)) front tail ∙ append-assoc p xs (ys ++ drop (at + length (xs ++ ys)) bytes)
       ∙ ap (λ (r : List ℕ). p ++ r) (sym (append-assoc xs ys (drop (at + length (xs ++ ys)) bytes)))
 
   -- the same of lists that code handed on
-  pub then : (xs ys bytes bytes′ bytes″ : List ℕ) (m : ℕ) → bytes′ ≡ putAt at xs bytes → bytes″ ≡ putAt m ys bytes′ → at ≤ length bytes → m ≡ at + length xs
-      → bytes″ ≡ putAt at (xs ++ ys) bytes
+  pub then : (xs ys bytes bytes′ bytes″ : List ℕ) (m : ℕ) → bytes′ ≡ putAt at xs bytes → bytes″ ≡ putAt m ys bytes′
+      → at ≤ length bytes → m ≡ at + length xs → bytes″ ≡ putAt at (xs ++ ys) bytes
   then xs ys bytes bytes′ bytes″ m e f h g = f ∙ ap (putAt m ys) e ∙ put-put xs ys bytes m h g
 
 pub put-first : (xs bytes : List ℕ) → putAt 0 xs bytes ≡ xs ++ drop (length xs) bytes

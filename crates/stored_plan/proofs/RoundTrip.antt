@@ -5,17 +5,20 @@ use Prim.Native.Nat.{ℕ, zero, suc}
 use native.Mathlib.Omega.{arith}
 use lib.ListN.{drop}
 use lib.Seq.{take-at, drop-at}
+use Rattle.bucket_test.specs.Tests.{overTo}
 use Rattle.bucket_test.specs.declared.Plan.{Plan}
 use Rattle.bucket_test.specs.Ignored.{SameCounted}
 use Rattle.bucket_test.proofs.PlaceLists.{join-cong}
 use Rattle.bucket_test.proofs.Rules.{accepted}
 use Rattle.bucket_test.proofs.Ignored.{ignored}
 use Rattle.stored_plan.specs.Form.{bucketOffset, formSize, header, thresholdEntries, bucketEntries, encoded}
-use Rattle.stored_plan.specs.Reading.{planIn, readRefusal, decodedBy, decoded}
+use Rattle.stored_plan.specs.Reading.{filled, planIn, readRefusal, noPlan, decodedBy, decoded}
 use Rattle.stored_plan.specs.Writing.{writeRefusal, writtenBy, bytesBy, written, bytesAfter}
-use Rattle.stored_plan.specs.RoundTrip.{PlanBack, BytesBack, FormLength, AcceptedForms, FormWritten, IgnoredInForm}
+use Rattle.stored_plan.specs.RoundTrip.{PlanBack, BytesBack, FormLength, AcceptedForms, AcceptedWritings, FormWritten}
+use Rattle.stored_plan.specs.RoundTrip.{NoneOnRefusal, IgnoredInForm, Zeros}
 use Rattle.stored_plan.proofs.FormLaws.{encoded-length}
-use Rattle.stored_plan.proofs.Refusals.{readable, decoded-none, written-none}
+use Rattle.stored_plan.proofs.Refusals.{readable, decoded-none, decoded-some, writable, written-none, written-some}
+use Rattle.stored_plan.proofs.ReadingLaws.{filled-past}
 use Rattle.stored_plan.proofs.PlanBack.{same, plan-back, form-read}
 use Rattle.stored_plan.proofs.BytesBack.{bytes-back}
 
@@ -55,15 +58,34 @@ form-length-holds p e =
 
 pub accepted-forms-hold : AcceptedForms
 accepted-forms-hold bytes each = (
-  λ e. let z = sym (read-refusal bytes) ∙ e in (planIn bytes, readable bytes .0 z .1 .1 .1 .1, sym (bytes-back bytes each z)),
+  λ e. let z = sym (read-refusal bytes) ∙ e in (planIn bytes, readable bytes .0 z .accepted, sym (bytes-back bytes each z)),
   λ s. read-refusal bytes ∙ rw (s .2) (form-read (s .0) (accepted (s .0) .0 (s .1))),
 )
+
+pub accepted-writings-hold : AcceptedWritings
+accepted-writings-hold p bytes = rw (write-refusal p bytes, encoded-length p) (writable p bytes)
 
 pub form-written-holds : FormWritten
 form-written-holds p bytes e =
     let w = written-none p bytes (sym (write-refusal p bytes) ∙ e) in
     let n = encoded-length p in
-    rw (← w .0, ← w .1) (take-at (encoded p) (drop (formSize (p .count) (p .buckets)) bytes) _ n, drop-at (encoded p) (drop (formSize (p .count) (p .buckets)) bytes) _ n)
+    let rest = drop (formSize (p .count) (p .buckets)) bytes in
+    rw (← w .0, ← w .1) (take-at (encoded p) rest _ n, drop-at (encoded p) rest _ n)
+
+zeros : Zeros noPlan
+unfolding noPlan filled overTo
+zeros = record {
+  counts = (refl, refl);
+  times = (refl, refl);
+  entries = λ i. (filled-past 10 0 (λ k. k) i (omega arith), filled-past 10 0 (λ k. k) i (omega arith));
+  ends = λ j. (filled-past 16 0 (λ k. k) j (omega arith), filled-past 16 0 (λ k. k) j (omega arith));
+}
+
+pub none-on-refusal-holds : NoneOnRefusal
+none-on-refusal-holds = (
+  λ bytes n. rw (← decoded-some bytes (decoded bytes .refusal) n (sym (read-refusal bytes))) zeros,
+  λ p bytes n. let w = written-some p bytes (written p bytes .refusal) n (sym (write-refusal p bytes)) in rw (← w .0, ← w .1) (refl, refl),
+)
 
 module _ (p q : Plan) (c : SameCounted p q) where
   thresholds-same : thresholdEntries q ≡ thresholdEntries p

@@ -1,10 +1,14 @@
 -- The stored form of a plan (01, "The plan": stored form).
 use mathlib.Core.List.{List, _++_}
 use Prim.Native.Nat.{ℕ, _+_, _*_}
+use lib.ListN.{getD}
 use Rattle.bucket_test.specs.Tests.{joinTo}
-use Rattle.bucket_test.specs.Plan.{thresholdAt, allowanceAt, leftAt, rightAt}
 use Rattle.bucket_test.specs.declared.Plan.{Plan}
 use Rattle.stored_plan.specs.Little.{toLE}
+
+-- an entry of two numbers, of m and of n bytes, those at one place of two tables
+abbrev pub pair : ℕ → ℕ → List ℕ → List ℕ → ℕ → List ℕ
+pair m n first second i = toLE m (getD first i 0) ++ toLE n (getD second i 0)
 
 -- the header's length, and the offset of the thresholds; the offset of the buckets behind K thresholds; the length with B buckets
 abbrev pub headerSize : ℕ
@@ -29,11 +33,11 @@ module _ (p : Plan) where
 
   -- K entries: 4 bytes threshold, 8 bytes allowance
   unfoldable pub thresholdEntries : List ℕ
-  thresholdEntries = joinTo (p .count) (λ i. toLE 4 (thresholdAt p i) ++ toLE 8 (allowanceAt p i))
+  thresholdEntries = joinTo (p .count) (pair 4 8 (p .thresholds) (p .allowances))
 
   -- B entries: 4 bytes left, 4 bytes right
   unfoldable pub bucketEntries : List ℕ
-  bucketEntries = joinTo (p .buckets) (λ j. toLE 4 (leftAt p j) ++ toLE 4 (rightAt p j))
+  bucketEntries = joinTo (p .buckets) (pair 4 4 (p .left) (p .right))
 
   unfoldable pub encoded : List ℕ
   encoded = header ++ (thresholdEntries ++ bucketEntries)

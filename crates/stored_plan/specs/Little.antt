@@ -17,6 +17,10 @@ fromLE (b ∷ bs) = b + 256 * fromLE bs
 unfoldable pub field : ℕ → ℕ → List ℕ → ℕ
 field width at bytes = fromLE (take width (drop at bytes))
 
+-- the numbers of `width` bytes at an offset and at each stride from there on
+abbrev pub column : ℕ → ℕ → ℕ → List ℕ → ℕ → ℕ
+column width at stride bytes i = field width (at + stride * i) bytes
+
 -- the bytes with some of them, from an offset on, put in place
 unfoldable pub putAt : ℕ → List ℕ → List ℕ → List ℕ
 putAt at put bytes = take at bytes ++ (put ++ drop (at + length put) bytes)

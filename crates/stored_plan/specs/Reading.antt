@@ -1,19 +1,19 @@
 -- Reading a stored plan: any bytes give a plan or a refusal (01, refusal 7, and "Order").
 use mathlib.Core.Bool.{Bool, _&&_}
 use mathlib.Core.List.{List, [], _∷_}
-use Prim.Native.Nat.{ℕ, zero, suc, _+_, _*_}
+use Prim.Native.Nat.{ℕ, zero, suc, _+_}
 use lib.ListN.{length, replicate}
-use Rattle.walk.specs.Numbers.{le?, lt?, only}
+use Rattle.walk.specs.Numbers.{le?}
 use Rattle.bucket_test.specs.Tests.{eq?, unless, firstRefusal, overTo}
 use Rattle.bucket_test.specs.Plan.{rule1, planRefusal}
 use Rattle.bucket_test.specs.declared.Plan.{Plan}
-use Rattle.stored_plan.specs.Little.{field}
+use Rattle.stored_plan.specs.Little.{field, column}
 use Rattle.stored_plan.specs.Form.{headerSize, bucketOffset, formSize}
 use Rattle.stored_plan.specs.declared.Read.{Read}
 
--- `places` numbers: the first `count` of them as f says, zeros past the count
-unfoldable pub filled : ℕ → ℕ → (ℕ → ℕ) → List ℕ
-filled places count f = overTo places (λ i z. only (lt? i count) (f i)) (replicate places 0)
+-- a table with its first `count` places as f says
+unfoldable pub filled : ℕ → (ℕ → ℕ) → List ℕ → List ℕ
+filled count f table = overTo count (λ i _. f i) table
 
 module _ (bytes : List ℕ) where
   -- the header's counts
@@ -23,17 +23,17 @@ module _ (bytes : List ℕ) where
   unfoldable pub bucketsIn : ℕ
   bucketsIn = field 2 2 bytes
 
-  -- the plan that the bytes hold, if they hold one
+  -- the plan that the bytes hold, if they hold one; zeros past the counts
   unfoldable pub planIn : Plan
   planIn = record {
     count = countIn;
     buckets = bucketsIn;
     delay = field 4 8 bytes;
     horizon = field 4 12 bytes;
-    thresholds = filled 10 countIn (λ i. field 4 (headerSize + 12 * i) bytes);
-    allowances = filled 10 countIn (λ i. field 8 (headerSize + 12 * i + 4) bytes);
-    left = filled 16 bucketsIn (λ j. field 4 (bucketOffset countIn + 8 * j) bytes);
-    right = filled 16 bucketsIn (λ j. field 4 (bucketOffset countIn + 8 * j + 4) bytes);
+    thresholds = filled countIn (column 4 headerSize 12 bytes) (replicate 10 0);
+    allowances = filled countIn (column 8 (headerSize + 4) 12 bytes) (replicate 10 0);
+    left = filled bucketsIn (column 4 (bucketOffset countIn) 8 bytes) (replicate 16 0);
+    right = filled bucketsIn (column 4 (bucketOffset countIn + 4) 8 bytes) (replicate 16 0);
   }
 
   unfoldable pub offsetsFit : Bool
@@ -42,17 +42,13 @@ module _ (bytes : List ℕ) where
   unfoldable pub lengthFits : Bool
   lengthFits = eq? (length bytes) (formSize countIn bucketsIn)
 
-  -- 7 for a length under 16, 1, 7 for offsets then total length, 2 to 6
+  -- of a form with a header, before its plan is judged: 1, 7 for offsets then total length
+  unfoldable pub formRefusal : ℕ
+  formRefusal = firstRefusal (unless (rule1 planIn) 1 ∷ unless offsetsFit 7 ∷ unless lengthFits 7 ∷ [])
+
+  -- 7 for a length under 16, the form's, the plan's
   unfoldable pub readRefusal : ℕ
-  readRefusal =
-      firstRefusal (
-      unless (le? headerSize (length bytes)) 7
-      ∷ unless (rule1 planIn) 1
-      ∷ unless offsetsFit 7
-      ∷ unless lengthFits 7
-      ∷ planRefusal planIn
-      ∷ []
-      )
+  readRefusal = firstRefusal (unless (le? headerSize (length bytes)) 7 ∷ formRefusal ∷ planRefusal planIn ∷ [])
 
 -- no plan: zeros in every number
 unfoldable pub noPlan : Plan

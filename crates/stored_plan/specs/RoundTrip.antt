@@ -19,6 +19,13 @@ pub record Same (p q : Plan) : Type 0 where
   pub ends-past : (j : ℕ) → p .buckets ≤ j → (leftAt q j ≡ 0) × (rightAt q j ≡ 0)
   pub places : (length (q .thresholds) ≡ 10) × (length (q .allowances) ≡ 10) × (length (q .left) ≡ 16) × (length (q .right) ≡ 16)
 
+-- zeros in every number
+pub record Zeros (p : Plan) : Type 0 where
+  pub counts : (p .count ≡ 0) × (p .buckets ≡ 0)
+  pub times : (p .delay ≡ 0) × (p .horizon ≡ 0)
+  pub entries : (i : ℕ) → (thresholdAt p i ≡ 0) × (allowanceAt p i ≡ 0)
+  pub ends : (j : ℕ) → (leftAt p j ≡ 0) × (rightAt p j ≡ 0)
+
 -- an accepted plan's form is read, and is the plan
 abbrev pub PlanBack : Type 0
 PlanBack = (p : Plan) → planRefusal p ≡ 0 → (decoded (encoded p) .refusal ≡ 0) × Same p (decoded (encoded p) .plan)
@@ -35,11 +42,20 @@ FormLength = (p : Plan) → planRefusal p ≡ 0 → (length (encoded p) ≡ form
 abbrev pub AcceptedForms : Type 0
 AcceptedForms = (bytes : List ℕ) → Bytes bytes → (decoded bytes .refusal ≡ 0) ↔ ((p : Plan) × (planRefusal p ≡ 0) × (bytes ≡ encoded p))
 
+-- writing accepts exactly the accepted plans whose form is no longer than the lent bytes
+abbrev pub AcceptedWritings : Type 0
+AcceptedWritings = (p : Plan) (bytes : List ℕ) → (written p bytes .refusal ≡ 0) ↔ ((planRefusal p ≡ 0) × (length (encoded p) ≤ length bytes))
+
 -- of lent bytes, so many as are handed back are the form, and the others keep their contents
 abbrev pub FormWritten : Type 0
 FormWritten = (p : Plan) (bytes : List ℕ) → written p bytes .refusal ≡ 0
     → (take (written p bytes .size) (bytesAfter p bytes) ≡ encoded p)
     × (drop (written p bytes .size) (bytesAfter p bytes) ≡ drop (written p bytes .size) bytes)
+
+-- a refused reading hands back no plan, and a refused writing leaves every byte as it was
+abbrev pub NoneOnRefusal : Type 0
+NoneOnRefusal = ((bytes : List ℕ) → ¬ (decoded bytes .refusal ≡ 0) → Zeros (decoded bytes .plan))
+    × ((p : Plan) (bytes : List ℕ) → ¬ (written p bytes .refusal ≡ 0) → (written p bytes .size ≡ 0) × (bytesAfter p bytes ≡ bytes))
 
 -- places past a count are ignored in writing too
 abbrev pub IgnoredInForm : Type 0

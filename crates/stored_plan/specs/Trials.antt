@@ -1,6 +1,7 @@
--- Plan F's stored form (01, "The program"): 44 bytes.
+-- Plan F's stored form (01, "The program"): 44 bytes; and damaged forms, with the refusals in their order (01, "Order").
 use mathlib.Core.List.{List, [], _∷_, _++_}
 use Prim.Native.Nat.{ℕ}
+use lib.ListN.{take, set, replicate}
 
 unfoldable pub planFBytes : List ℕ
 planFBytes =
@@ -10,3 +11,23 @@ planFBytes =
     ++ ((80 ∷ 195 ∷ 0 ∷ 0 ∷ 47 ∷ 221 ∷ 36 ∷ 6 ∷ 1 ∷ 0 ∷ 0 ∷ 0 ∷ [])
     -- 0 to 50,000, and 50,000 to 1,000,000
     ++ (0 ∷ 0 ∷ 0 ∷ 0 ∷ 80 ∷ 195 ∷ 0 ∷ 0 ∷ 80 ∷ 195 ∷ 0 ∷ 0 ∷ 64 ∷ 66 ∷ 15 ∷ 0 ∷ []))
+
+-- the same with threshold 0
+abbrev noThreshold : List ℕ
+noThreshold = set (set planFBytes 16 0) 17 0
+
+unfoldable pub damaged : List (List ℕ)
+damaged =
+    -- under 16 bytes
+    [] ∷ replicate 15 0
+    -- K is 0; K is 11, and the offset wrong; B is 17, and the length wrong
+    ∷ replicate 16 0 ∷ set planFBytes 0 11 ∷ set planFBytes 2 17
+    -- an offset wrong, and the threshold
+    ∷ set noThreshold 4 12 ∷ set noThreshold 6 29
+    -- a byte too few, one too many, and the threshold wrong
+    ∷ take 43 noThreshold ∷ (noThreshold ++ (0 ∷ []))
+    -- the threshold wrong; N is 65,736
+    ∷ noThreshold ∷ set planFBytes 14 1 ∷ []
+
+unfoldable pub damages : List ℕ
+damages = 7 ∷ 7 ∷ 1 ∷ 1 ∷ 1 ∷ 7 ∷ 7 ∷ 7 ∷ 7 ∷ 2 ∷ 4 ∷ []

@@ -1,13 +1,11 @@
 // Reading a stored plan: any bytes give a plan or a refusal (01, refusal 7, and "Order").
 ghost use mathlib.Core.Path.{_≡_};
-ghost use mathlib.Core.List.{[], _∷_};
-ghost use Prim.Native.Nat.{_+_, _*_, _≤_};
+ghost use Prim.Native.Nat.{ℕ, _+_, _*_, _≤_, _<_};
 ghost use lib.ListN.{length};
-ghost use Rattle.bucket_test.specs.Tests.{unless, firstRefusal};
 ghost use Rattle.bucket_test.specs.Plan.{rule1};
-ghost use Rattle.stored_plan.specs.Little.{field};
+ghost use Rattle.stored_plan.specs.Little.{column};
 ghost use Rattle.stored_plan.specs.Form.{headerSize, formSize};
-ghost use Rattle.stored_plan.specs.Reading.{filled, countIn, bucketsIn, planIn, offsetsFit, lengthFits, noPlan, decoded};
+ghost use Rattle.stored_plan.specs.Reading.{filled, countIn, bucketsIn, planIn, offsetsFit, lengthFits, formRefusal, noPlan, decoded};
 use crate::Read;
 use crate::little::read_le;
 use crate::little::read_u32;
@@ -58,7 +56,7 @@ fn length_fits(bytes: &[u8]) -> bool
 // The refusal of a form that has a header, before its plan is judged: 1, 7 for offsets, 7 for the length.
 fn form_refusal(bytes: &[u8]) -> u32
     requires { ⌜ headerSize ≤ length (now bytes) ⌝ }
-    ensures { λ r. ⌜ r ≡ firstRefusal (unless (rule1 (planIn (now (bytes .entry)))) 1 ∷ unless (offsetsFit (now (bytes .entry))) 7 ∷ unless (lengthFits (now (bytes .entry))) 7 ∷ []) ⌝ }
+    ensures { λ r. ⌜ r ≡ formRefusal (now (bytes .entry)) ⌝ }
 {
     let counts = counts_fit(bytes);
     let offsets = offsets_fit(bytes);
@@ -72,45 +70,37 @@ fn form_refusal(bytes: &[u8]) -> u32
     if size { 0 } else { 7 }
 }
 
-// The thresholds of so many entries, at most ten; zeros past them.
-fn thresholds_in(bytes: &[u8], count: usize) -> [u32; 10]
-    requires { ⌜ (count ≤ 10) × (headerSize + 12 * count ≤ length (now bytes)) ⌝ }
-    ensures { λ r. ⌜ r ≡ filled 10 count (λ i. field 4 (headerSize + 12 * i) (now (bytes .entry))) ⌝ }
+// Numbers of `width` bytes, at an offset and at each stride from there on, into the first `count` places of a table.
+fn fields_in(bytes: &[u8], at: usize, stride: usize, width: usize, count: usize, table: &mut [u32])
+    requires { ⌜ (width ≤ 4) × (count ≤ length (now table)) × ((i : ℕ) → i < count → at + stride * i + width ≤ length (now bytes)) ⌝ }
+    ensures { λ _. ⌜ now (table .exit) ≡ filled count (column width at stride (now (bytes .entry))) (now (table .entry)) ⌝ }
 {
-    let mut table = [0u32; 10];
     for i in 0..count {
-        table[i] = read_u32(bytes, 16 + 12 * i, 4);
+        table[i] = read_u32(bytes, at + stride * i, width);
     }
-    table
 }
 
-// The allowances of so many entries, at most ten; zeros past them.
-fn allowances_in(bytes: &[u8], count: usize) -> [u64; 10]
-    requires { ⌜ (count ≤ 10) × (headerSize + 12 * count ≤ length (now bytes)) ⌝ }
-    ensures { λ r. ⌜ r ≡ filled 10 count (λ i. field 8 (headerSize + 12 * i + 4) (now (bytes .entry))) ⌝ }
+// The same of up to 8 bytes.
+fn long_fields_in(
+    bytes: &[u8],
+    at: usize,
+    stride: usize,
+    width: usize,
+    count: usize,
+    table: &mut [u64],
+)
+    requires { ⌜ (width ≤ 8) × (count ≤ length (now table)) × ((i : ℕ) → i < count → at + stride * i + width ≤ length (now bytes)) ⌝ }
+    ensures { λ _. ⌜ now (table .exit) ≡ filled count (column width at stride (now (bytes .entry))) (now (table .entry)) ⌝ }
 {
-    let mut table = [0u64; 10];
     for i in 0..count {
-        table[i] = read_le(bytes, 16 + 12 * i + 4, 8);
+        table[i] = read_le(bytes, at + stride * i, width);
     }
-    table
-}
-
-// One end of so many buckets, at most sixteen, from that of the first on; zeros past them.
-fn ends_in(bytes: &[u8], at: usize, buckets: usize) -> [u32; 16]
-    requires { ⌜ (buckets ≤ 16) × (at + 8 * buckets ≤ length (now bytes) + 4) ⌝ }
-    ensures { λ r. ⌜ r ≡ filled 16 buckets (λ j. field 4 (at + 8 * j) (now (bytes .entry))) ⌝ }
-{
-    let mut table = [0u32; 16];
-    for j in 0..buckets {
-        table[j] = read_u32(bytes, at + 8 * j, 4);
-    }
-    table
 }
 
 // The plan of a form that its counts and its length fit.
 fn plan_in(bytes: &[u8]) -> Plan
-    requires { ⌜ (countIn (now bytes) ≤ 10) × (bucketsIn (now bytes) ≤ 16) × (length (now bytes) ≡ formSize (countIn (now bytes)) (bucketsIn (now bytes))) ⌝ }
+    requires { ⌜ (countIn (now bytes) ≤ 10) × (bucketsIn (now bytes) ≤ 16)
+        × (length (now bytes) ≡ formSize (countIn (now bytes)) (bucketsIn (now bytes))) ⌝ }
     ensures { λ r. ⌜ r ≡ planIn (now (bytes .entry)) ⌝ }
 {
     let count = read_u32(bytes, 0, 2);
@@ -120,10 +110,14 @@ fn plan_in(bytes: &[u8]) -> Plan
     let k = count as usize;
     let b = buckets as usize;
     let at = 16 + 12 * k;
-    let thresholds = thresholds_in(bytes, k);
-    let allowances = allowances_in(bytes, k);
-    let left = ends_in(bytes, at, b);
-    let right = ends_in(bytes, at + 4, b);
+    let mut thresholds = [0u32; 10];
+    fields_in(bytes, 16, 12, 4, k, &mut thresholds);
+    let mut allowances = [0u64; 10];
+    long_fields_in(bytes, 20, 12, 8, k, &mut allowances);
+    let mut left = [0u32; 16];
+    fields_in(bytes, at, 8, 4, b, &mut left);
+    let mut right = [0u32; 16];
+    fields_in(bytes, at + 4, 8, 4, b, &mut right);
     Plan {
         count,
         buckets,

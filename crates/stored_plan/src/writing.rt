@@ -1,10 +1,10 @@
 // Writing a plan into lent bytes (01, refusal 12, and "Order").
 ghost use mathlib.Core.Path.{_≡_};
-ghost use mathlib.Core.List.{_++_};
-ghost use Prim.Native.Nat.{_+_, _≤_};
+ghost use Prim.Native.Nat.{_+_, _*_, _≤_};
 ghost use lib.ListN.{length};
-ghost use Rattle.stored_plan.specs.Little.{toLE, putAt};
-ghost use Rattle.stored_plan.specs.Form.{headerSize, bucketOffset, formSize, header, thresholdEntries, bucketEntries};
+ghost use Rattle.bucket_test.specs.Tests.{joinTo};
+ghost use Rattle.stored_plan.specs.Little.{putAt};
+ghost use Rattle.stored_plan.specs.Form.{pair, headerSize, header};
 ghost use Rattle.stored_plan.specs.Writing.{written, bytesAfter};
 use crate::Written;
 use crate::little::write_two;
@@ -22,45 +22,29 @@ fn write_header(bytes: &mut [u8], p: Plan)
     write_two(bytes, 8, 4, p.delay as u64, 4, p.horizon as u64);
 }
 
-// An entry for each threshold, with its allowance.
-fn write_thresholds(bytes: &mut [u8], p: Plan)
-    requires { ⌜ (p .count ≤ 10) × (bucketOffset (p .count) ≤ length (now bytes)) ⌝ }
-    ensures { λ _. ⌜ now (bytes .exit) ≡ putAt headerSize (thresholdEntries p) (now (bytes .entry)) ⌝ }
+// An entry of two numbers, of 4 bytes each, for each of the first `count` places of two tables, from an offset on.
+fn write_pairs<'a>(bytes: &mut [u8], at: usize, count: usize, first: &'a [u32], second: &'a [u32])
+    requires { ⌜ (count ≤ length (now first)) × (count ≤ length (now second)) × (at + 8 * count ≤ length (now bytes)) ⌝ }
+    ensures { λ _. ⌜ now (bytes .exit) ≡ putAt at (joinTo count (pair 4 4 (now (first .entry)) (now (second .entry)))) (now (bytes .entry)) ⌝ }
 {
-    let k = p.count as usize;
-    let thresholds = p.thresholds;
-    let allowances = p.allowances;
-    for i in 0..k {
-        write_two(
-            bytes,
-            16 + 12 * i,
-            4,
-            thresholds[i] as u64,
-            8,
-            allowances[i],
-        );
+    for i in 0..count {
+        write_two(bytes, at + 8 * i, 4, first[i] as u64, 4, second[i] as u64);
     }
 }
 
-// A bucket's entry: its two ends.
-fn write_ends(bytes: &mut [u8], at: usize, left: u32, right: u32)
-    requires { ⌜ at + 8 ≤ length (now bytes) ⌝ }
-    ensures { λ _. ⌜ now (bytes .exit) ≡ putAt at (toLE 4 left ++ toLE 4 right) (now (bytes .entry)) ⌝ }
+// The same with 8 bytes for the second.
+fn write_long_pairs<'a>(
+    bytes: &mut [u8],
+    at: usize,
+    count: usize,
+    first: &'a [u32],
+    second: &'a [u64],
+)
+    requires { ⌜ (count ≤ length (now first)) × (count ≤ length (now second)) × (at + 12 * count ≤ length (now bytes)) ⌝ }
+    ensures { λ _. ⌜ now (bytes .exit) ≡ putAt at (joinTo count (pair 4 8 (now (first .entry)) (now (second .entry)))) (now (bytes .entry)) ⌝ }
 {
-    write_two(bytes, at, 4, left as u64, 4, right as u64);
-}
-
-// An entry for each bucket.
-fn write_buckets(bytes: &mut [u8], p: Plan)
-    requires { ⌜ (p .count ≤ 10) × (p .buckets ≤ 16) × (formSize (p .count) (p .buckets) ≤ length (now bytes)) ⌝ }
-    ensures { λ _. ⌜ now (bytes .exit) ≡ putAt (bucketOffset (p .count)) (bucketEntries p) (now (bytes .entry)) ⌝ }
-{
-    let at = 16 + 12 * (p.count as usize);
-    let b = p.buckets as usize;
-    let left = p.left;
-    let right = p.right;
-    for j in 0..b {
-        write_ends(bytes, at + 8 * j, left[j], right[j]);
+    for i in 0..count {
+        write_two(bytes, at + 12 * i, 4, first[i] as u64, 8, second[i]);
     }
 }
 
@@ -72,7 +56,10 @@ pub fn write_plan(p: Plan, bytes: &mut [u8]) -> Written
     if refusal != 0 {
         return Written { refusal, size: 0 };
     }
-    let size = 16 + 12 * (p.count as usize) + 8 * (p.buckets as usize);
+    let k = p.count as usize;
+    let b = p.buckets as usize;
+    let at = 16 + 12 * k;
+    let size = at + 8 * b;
     if bytes.len() < size {
         return Written {
             refusal: 12,
@@ -80,7 +67,7 @@ pub fn write_plan(p: Plan, bytes: &mut [u8]) -> Written
         };
     }
     write_header(bytes, p);
-    write_thresholds(bytes, p);
-    write_buckets(bytes, p);
+    write_long_pairs(bytes, 16, k, &p.thresholds, &p.allowances);
+    write_pairs(bytes, at, b, &p.left, &p.right);
     Written { refusal, size }
 }

@@ -20,7 +20,8 @@ loop-holds : tie.Need-loop-holds Inv-loop μ-loop
 unfolding fromLE
 loop-holds c =
     let a = c .before .args in
-    let none = drop-of-length-le (take (a .width) (drop (a .at) (a .bytes .now))) {i = a .width - 0} (omega (arith, length-take (a .width) (drop (a .at) (a .bytes .now)))) in
+    let from = drop (a .at) (a .bytes .now) in
+    let none = drop-of-length-le (take (a .width) from) {i = a .width - 0} (omega (arith, length-take (a .width) from)) in
     (omega arith, rw none, omega arith)
 
 sub-place : tie.Need-sub-place Inv-loop μ-loop
@@ -46,7 +47,8 @@ byte-requires c κs = search needs
 add-v : tie.Need-add-v Inv-loop μ-loop
 add-v c =
     let l = c .before .before .before .loop in
-    record { fits = omega (arith, more-lt (l .i) (l .v) (c .byte .result) (l .inv .2) (c .byte .ensures .1), pow-le (suc (l .i)) 8 (omega arith)) }
+    let more = more-lt (l .i) (l .v) (c .byte .result) (l .inv .2) (c .byte .ensures .1) in
+    record { fits = omega (arith, more, pow-le (suc (l .i)) 8 (omega arith)) }
 
 add-i : tie.Need-add-i Inv-loop μ-loop
 add-i c = search needs

@@ -22,8 +22,10 @@ same-length c = search needs
 returns : tie.Need-returns
 returns c =
     let a = c .before .before .before .before .before .before .before .before .before .args in
-    then (a .at) (toLE (a .first) (a .v)) (toLE (a .second) (a .w)) (a .bytes .now) _ _ _ (c .before .before .before .before .before .before .write-le .ensures)
-    (c .before .before .write-le2 .ensures) (omega arith) (rw (to-length (a .first) (a .v)))
+    let one = c .before .before .before .before .before .before .write-le .ensures in
+    let two = c .before .before .write-le2 .ensures in
+    let first = toLE (a .first) (a .v) in
+    then (a .at) first (toLE (a .second) (a .w)) (a .bytes .now) _ _ _ one two (omega arith) (rw (to-length (a .first) (a .v)))
 
 pub write-two-spec : {M : Type 1} → statement M
 write-two-spec = tie.close (tie.spec write-le-requires add-write-le write-le-requires-2 same-length returns)

@@ -31,14 +31,16 @@ unfolding rule1 planIn countIn bucketsIn
 returns-3 c =
     let k = c .before .before .before .before .read-u32 in
     let b = c .before .before .before .read-u322 in
-    rw (← k .ensures .0, ← b .ensures .0, within-reads 1 10 (k .result) .1 (c .before .before .if1 .left, c .before .if2 .left), within-low 2 16 (b .result) (c .if3 .taken))
+    let ranged = within-reads 1 10 (k .result) .1 (c .before .before .if1 .left, c .before .if2 .left) in
+    rw (← k .ensures .0, ← b .ensures .0, ranged, within-low 2 16 (b .result) (c .if3 .taken))
 
 returns-4 : tie.Need-returns-4
 unfolding rule1 planIn countIn bucketsIn le?
 returns-4 c =
     let k = c .before .before .before .before .read-u32 in
     let b = c .before .before .before .read-u322 in
-    rw (← k .ensures .0, ← b .ensures .0, within-reads 1 10 (k .result) .1 (c .before .before .if1 .left, c .before .if2 .left), le?-complete 2 (b .result) (c .if3 .left))
+    let ranged = within-reads 1 10 (k .result) .1 (c .before .before .if1 .left, c .before .if2 .left) in
+    rw (← k .ensures .0, ← b .ensures .0, ranged, le?-complete 2 (b .result) (c .if3 .left))
 
 pub counts-fit-spec : {M : Type 1} → statement M
 counts-fit-spec = tie.close (tie.spec read-u32-requires read-u32-requires-2 returns returns-2 returns-3 returns-4)

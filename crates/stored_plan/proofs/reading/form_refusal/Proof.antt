@@ -2,6 +2,7 @@
 use mathlib.Core.Path.{sym, _∙_}
 use borrow.Author.Needs.{needs}
 use Rattle.bucket_test.proofs.PlaceLaws.{passed, failed}
+use Rattle.stored_plan.specs.Reading.{formRefusal}
 use Rattle.stored_plan.proofs.reading.form_refusal.Statement.{statement}
 use Rattle.stored_plan.proofs.reading.form_refusal.Tie as tie
 
@@ -15,13 +16,19 @@ length-fits-requires : tie.Need-length-fits-requires
 length-fits-requires c κs = search needs
 
 returns : tie.Need-returns
+unfolding formRefusal
 returns c = rw (failed (c .before .before .before .counts-fit .ensures) (c .if1 .taken))
 
 returns-2 : tie.Need-returns-2
+unfolding formRefusal
 returns-2 c =
-    rw (passed (c .before .before .before .before .counts-fit .ensures) (c .before .if1 .left), failed (c .before .before .before .offsets-fit .ensures) (c .if2 .taken))
+    rw (
+      passed (c .before .before .before .before .counts-fit .ensures) (c .before .if1 .left),
+      failed (c .before .before .before .offsets-fit .ensures) (c .if2 .taken),
+    )
 
 returns-3 : tie.Need-returns-3
+unfolding formRefusal
 returns-3 c =
     rw (
       passed (c .before .before .before .before .before .counts-fit .ensures) (c .before .before .if1 .left),
@@ -30,6 +37,7 @@ returns-3 c =
     )
 
 returns-4 : tie.Need-returns-4
+unfolding formRefusal
 returns-4 c =
     rw (
       passed (c .before .before .before .before .before .counts-fit .ensures) (c .before .before .if1 .left),

@@ -32,7 +32,8 @@ returns-2 : tie.Need-returns-2
 unfolding offsetsFit bucketOffset countIn eq?
 returns-2 c =
     let o = c .before .before .read-u322 in
-    rw (← o .ensures .0, ← c .read-u323 .ensures .0, ← c .before .before .before .read-u32 .ensures .0, eq?-complete (o .result) 16 (c .before .if1 .left))
+    let k = c .before .before .before .read-u32 in
+    rw (← o .ensures .0, ← c .read-u323 .ensures .0, ← k .ensures .0, eq?-complete (o .result) 16 (c .before .if1 .left))
 
 pub offsets-fit-spec : {M : Type 1} → statement M
 offsets-fit-spec =

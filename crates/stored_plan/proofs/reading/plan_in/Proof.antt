@@ -1,12 +1,8 @@
 -- `plan_in` meets its contract: each number stands where the definition reads it. Assumes nothing.
-use mathlib.Core.Path.{ap, _∙_}
-use Prim.Native.Nat.{ℕ, _+_, _*_}
 use native.Mathlib.Omega.{arith}
 use borrow.Author.Needs.{needs}
-use Rattle.stored_plan.specs.Little.{field}
 use Rattle.stored_plan.specs.Form.{bucketOffset, formSize}
 use Rattle.stored_plan.specs.Reading.{countIn, bucketsIn, planIn}
-use Rattle.stored_plan.proofs.ReadingLaws.{filled-cong}
 use Rattle.stored_plan.proofs.reading.plan_in.Statement.{statement}
 use Rattle.stored_plan.proofs.reading.plan_in.Tie as tie
 
@@ -38,33 +34,55 @@ mul-at c = search needs
 add-at : tie.Need-add-at
 add-at c = search needs
 
-thresholds-in-requires : tie.Need-thresholds-in-requires
-unfolding formSize bucketOffset countIn bucketsIn
-thresholds-in-requires c κs = search needs
+slice-aggregate-fields-in : tie.Need-slice-aggregate-fields-in
+slice-aggregate-fields-in c = search needs
 
-allowances-in-requires : tie.Need-allowances-in-requires
+fields-in-requires : tie.Need-fields-in-requires
 unfolding formSize bucketOffset countIn bucketsIn
-allowances-in-requires c κs = search needs
+fields-in-requires c κs = (omega arith, omega arith, λ i l. omega arith)
 
-ends-in-requires : tie.Need-ends-in-requires
+slice-aggregate-long-fields-in : tie.Need-slice-aggregate-long-fields-in
+slice-aggregate-long-fields-in c = search needs
+
+long-fields-in-requires : tie.Need-long-fields-in-requires
 unfolding formSize bucketOffset countIn bucketsIn
-ends-in-requires c κs = search needs
+long-fields-in-requires c κs = (omega arith, omega arith, λ i l. omega arith)
 
-add-ends-in : tie.Need-add-ends-in
-add-ends-in c = search needs
+slice-aggregate-fields-in-2 : tie.Need-slice-aggregate-fields-in-2
+slice-aggregate-fields-in-2 c = search needs
 
-ends-in-requires-2 : tie.Need-ends-in-requires-2
+fields-in-requires-2 : tie.Need-fields-in-requires-2
 unfolding formSize bucketOffset countIn bucketsIn
-ends-in-requires-2 c κs = search needs
+fields-in-requires-2 c κs = (omega arith, omega arith, λ i l. omega arith)
+
+add-fields-in : tie.Need-add-fields-in
+add-fields-in c = search needs
+
+slice-aggregate-fields-in-3 : tie.Need-slice-aggregate-fields-in-3
+slice-aggregate-fields-in-3 c = search needs
+
+fields-in-requires-3 : tie.Need-fields-in-requires-3
+unfolding formSize bucketOffset countIn bucketsIn
+fields-in-requires-3 c κs = (omega arith, omega arith, λ i l. omega arith)
 
 returns : tie.Need-returns
 unfolding planIn bucketOffset countIn bucketsIn
 returns c =
-    let bytes = c .before .before .before .before .before .before .before .before .before .args .bytes .now in
-    let k = c .before .before .before .before .before .before .before .read-u32 in
-    let b = c .before .before .before .before .before .before .read-u322 in
-    let right = c .ends-in2 .ensures ∙ filled-cong 16 (b .result) _ (λ j. field 4 (16 + 12 * k .result + 8 * j + 4) bytes) (λ j l. ap (λ (n : ℕ). field 4 n bytes) (omega arith)) in
-    rw (right, c .before .ends-in .ensures, c .before .before .allowances-in .ensures, c .before .before .before .thresholds-in .ensures, c .before .before .before .before .read-u324 .ensures .0, c .before .before .before .before .before .read-u323 .ensures .0, b .ensures .0, k .ensures .0)
+    let to-left = c .before .before .before .before in
+    let to-thresholds = to-left .before .before .before .before .before .before in
+    let to-times = to-thresholds .before .before in
+    let k = to-times .before .before .before .read-u32 in
+    let b = to-times .before .before .read-u322 in
+    rw (
+      c .before .fields-in3 .ensures,
+      to-left .fields-in2 .ensures,
+      to-left .before .before .before .long-fields-in .ensures,
+      to-thresholds .fields-in .ensures,
+      to-times .read-u324 .ensures .0,
+      to-times .before .read-u323 .ensures .0,
+      b .ensures .0,
+      k .ensures .0,
+    )
 
 pub plan-in-spec : {M : Type 1} → statement M
 plan-in-spec =
@@ -78,9 +96,13 @@ plan-in-spec =
     cast-b
     mul-at
     add-at
-    thresholds-in-requires
-    allowances-in-requires
-    ends-in-requires
-    add-ends-in
-    ends-in-requires-2
+    slice-aggregate-fields-in
+    fields-in-requires
+    slice-aggregate-long-fields-in
+    long-fields-in-requires
+    slice-aggregate-fields-in-2
+    fields-in-requires-2
+    add-fields-in
+    slice-aggregate-fields-in-3
+    fields-in-requires-3
     returns)

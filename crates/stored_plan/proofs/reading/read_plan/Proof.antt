@@ -1,6 +1,5 @@
 -- `read_plan` meets its contract: past each refusal that is not there, the refusal is the first of those left to judge. Assumes nothing.
 use mathlib.Core.Path.{sym, ap, _∙_}
-use mathlib.Core.List.{[]}
 use native.Mathlib.Omega.{arith}
 use borrow.Author.Needs.{needs}
 use Rattle.bucket_test.specs.Plan.{planRefusal}
@@ -13,7 +12,7 @@ refused-requires : tie.Need-refused-requires
 refused-requires c κs = search needs
 
 returns : tie.Need-returns
-returns c = c .refused .ensures ∙ decoded-some (c .before .before .before .args .bytes .now) 7 (λ e. omega arith) (short _ (c .before .if1 .taken))
+returns c = c .refused .ensures ∙ decoded-some _ 7 (λ e. omega arith) (short _ (c .before .if1 .taken))
 
 form-refusal-requires : tie.Need-form-refusal-requires
 form-refusal-requires c κs = search needs
@@ -30,8 +29,8 @@ returns-2 c =
 plan-in-requires : tie.Need-plan-in-requires
 unfolding planIn
 plan-in-requires c κs =
-    let s = form-says (c .before .before .before .before .args .bytes .now) [] (λ e. e, λ e. e) .0 (sym (c .before .form-refusal .ensures) ∙ c .if2 .left) in
-    (s .0 .0 .1, s .0 .1 .1, s .1 .1 .0)
+    let s = form-says (c .before .before .before .before .args .bytes .now) .0 (sym (c .before .form-refusal .ensures) ∙ c .if2 .left) in
+    (s .0 .0 .1, s .0 .1 .1, s .1 .1)
 
 plan-refusal-requires : tie.Need-plan-refusal-requires
 plan-refusal-requires c κs = search needs
@@ -43,14 +42,20 @@ returns-3 : tie.Need-returns-3
 returns-3 c =
     let r = c .before .before .before .before .before .form-refusal in
     let n = c .before .if3 .taken in
-    let e = past-form _ (r .result) (r .ensures) (c .before .before .before .before .before .before .if1 .left) (c .before .before .before .before .if2 .left) in
-    c .refused3 .ensures ∙ decoded-some _ (c .before .before .plan-refusal .result) n (e ∙ sym (c .before .before .plan-refusal .ensures ∙ ap planRefusal (c .before .before .before .plan-in .ensures)))
+    let l = c .before .before .before .before .before .before .if1 .left in
+    let e = past-form _ (r .result) (r .ensures) l (c .before .before .before .before .if2 .left) in
+    let p = c .before .before .plan-refusal in
+    let same = p .ensures ∙ ap planRefusal (c .before .before .before .plan-in .ensures) in
+    c .refused3 .ensures ∙ decoded-some _ (p .result) n (e ∙ sym same)
 
 returns-4 : tie.Need-returns-4
 returns-4 c =
     let r = c .before .before .before .before .form-refusal in
-    let e = past-form _ (r .result) (r .ensures) (c .before .before .before .before .before .if1 .left) (c .before .before .before .if2 .left) in
-    rw (c .if3 .left, c .before .before .plan-in .ensures) (decoded-none _ (e ∙ sym (c .before .plan-refusal .ensures ∙ ap planRefusal (c .before .before .plan-in .ensures)) ∙ c .if3 .left))
+    let l = c .before .before .before .before .before .if1 .left in
+    let e = past-form _ (r .result) (r .ensures) l (c .before .before .before .if2 .left) in
+    let p = c .before .before .plan-in in
+    let same = c .before .plan-refusal .ensures ∙ ap planRefusal (p .ensures) in
+    rw (c .if3 .left, p .ensures) (decoded-none _ (e ∙ sym same ∙ c .if3 .left))
 
 pub read-plan-spec : {M : Type 1} → statement M
 read-plan-spec =

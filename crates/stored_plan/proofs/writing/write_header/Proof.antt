@@ -44,11 +44,18 @@ same-length c = search needs
 returns : tie.Need-returns
 unfolding header bucketOffset
 returns c =
-    let a = c .before .before .before .before .before .before .before .before .before .before .before .before .before .before .before .before .before .args in
+    let to-times = c .before .before in
+    let to-offsets = to-times .before .before .before .before .before .before in
+    let to-counts = to-offsets .before .before .before .before in
+    let a = to-counts .before .before .before .before .before .args in
     let counts = toLE 2 (a .p .count) ++ toLE 2 (a .p .buckets) in
     let offsets = toLE 2 16 ++ toLE 2 (16 + 12 * a .p .count) in
-    let first = then 0 counts offsets (a .bytes .now) _ _ 4 (c .before .before .before .before .before .before .before .before .before .before .before .before .write-two .ensures) (c .before .before .before .before .before .before .before .before .write-two2 .ensures) (omega arith) (simp (length-append, to-length)) in
-    simp append-assoc at (then 0 (counts ++ offsets) (toLE 4 (a .p .delay) ++ toLE 4 (a .p .horizon)) (a .bytes .now) _ _ 8 first (c .before .before .write-two3 .ensures) (omega arith) (simp (length-append, to-length)))
+    let times = toLE 4 (a .p .delay) ++ toLE 4 (a .p .horizon) in
+    let one = to-counts .write-two .ensures in
+    let two = to-offsets .write-two2 .ensures in
+    let three = to-times .write-two3 .ensures in
+    let front = then 0 counts offsets (a .bytes .now) _ _ 4 one two (omega arith) (simp (length-append, to-length)) in
+    simp append-assoc at (then 0 (counts ++ offsets) times (a .bytes .now) _ _ 8 front three (omega arith) (simp (length-append, to-length)))
 
 pub write-header-spec : {M : Type 1} → statement M
 write-header-spec =

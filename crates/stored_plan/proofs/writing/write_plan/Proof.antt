@@ -4,15 +4,15 @@ use native.Mathlib.Omega.{arith}
 use borrow.Author.Needs.{needs}
 use Rattle.bucket_test.specs.Plan.{Accepted}
 use Rattle.bucket_test.proofs.Rules.{accepted}
-use Rattle.stored_plan.specs.Form.{bucketOffset, formSize}
+use Rattle.stored_plan.specs.Form.{bucketOffset, formSize, thresholdEntries, bucketEntries}
 use Rattle.stored_plan.proofs.FormLaws.{put-form}
 use Rattle.stored_plan.proofs.Refusals.{written-none, written-some, plan-refused, no-room, room}
 use Rattle.stored_plan.proofs.writing.write_plan.Statement.{statement}
 use Rattle.stored_plan.proofs.writing.write_plan.Tie as tie
 
 -- a plan that is not refused keeps its places inside the arrays
-kept : (c : tie.Else1) → Accepted (c .before .before .before .args .p)
-kept c = accepted (c .before .before .before .args .p) .0 (sym (c .before .plan-refusal .ensures) ∙ c .if1 .left)
+kept : (c : tie.Else1) → Accepted (c .before .before .before .args .t1)
+kept c = accepted (c .before .before .before .args .t1) .0 (sym (c .before .plan-refusal .ensures) ∙ c .if1 .left)
 
 plan-refusal-requires : tie.Need-plan-refusal-requires
 plan-refusal-requires c κs = search needs
@@ -21,10 +21,20 @@ returns : tie.Need-returns
 returns c =
     let a = c .before .before .before .args in
     let r = c .before .plan-refusal in
-    written-some (a .p) (a .bytes .now) (r .result) (c .if1 .taken) (plan-refused (a .p) (a .bytes .now) (r .result) (r .ensures) (c .if1 .taken))
+    let e = plan-refused (a .t1) (a .bytes .now) (r .result) (r .ensures) (c .if1 .taken) in
+    written-some (a .t1) (a .bytes .now) (r .result) (c .if1 .taken) e
 
-cast-size : tie.Need-cast-size
-cast-size c = search needs
+cast-k : tie.Need-cast-k
+cast-k c = search needs
+
+cast-b : tie.Need-cast-b
+cast-b c = search needs
+
+mul-at : tie.Need-mul-at
+mul-at c = search needs
+
+add-at : tie.Need-add-at
+add-at c = search needs
 
 mul-size : tie.Need-mul-size
 mul-size c = search needs
@@ -32,44 +42,47 @@ mul-size c = search needs
 add-size : tie.Need-add-size
 add-size c = search needs
 
-cast-size-2 : tie.Need-cast-size-2
-cast-size-2 c = search needs
-
-mul-size-2 : tie.Need-mul-size-2
-mul-size-2 c = search needs
-
-add-size-2 : tie.Need-add-size-2
-add-size-2 c = search needs
-
 returns-2 : tie.Need-returns-2
 unfolding formSize bucketOffset
 returns-2 c =
-    let a = c .before .before .before .before .before .before .args in
-    let r = c .before .before .before .before .plan-refusal in
-    written-some (a .p) (a .bytes .now) 12 (λ e. omega arith) (no-room (a .p) (a .bytes .now) (r .result) (r .ensures) (c .before .before .before .if1 .left) (c .if2 .taken))
+    let a = c .before .before .before .before .args in
+    let r = c .before .before .plan-refusal in
+    let e = no-room (a .t1) (a .bytes .now) (r .result) (r .ensures) (c .before .if1 .left) (c .if2 .taken) in
+    written-some (a .t1) (a .bytes .now) 12 (λ e. omega arith) e
 
 write-header-requires : tie.Need-write-header-requires
-write-header-requires c κs = let a = kept (c .before .before .before .before) in (a .count-range .1, omega arith)
+write-header-requires c κs = (kept (c .before .before) .count-range .1, omega arith)
 
-write-thresholds-requires : tie.Need-write-thresholds-requires
-unfolding bucketOffset
-write-thresholds-requires c κs = let a = kept (c .before .before .before .before .before .before .before .before) in (a .count-range .1, omega arith)
+write-long-pairs-requires : tie.Need-write-long-pairs-requires
+write-long-pairs-requires c κs =
+    let to-header = c .before .before .before .before .before .before .before .before in
+    let a = kept (to-header .before .before .before) in
+    (search needs, search needs, omega arith)
 
-write-buckets-requires : tie.Need-write-buckets-requires
-unfolding formSize bucketOffset
-write-buckets-requires c κs = let a = kept (c .before .before .before .before .before .before .before .before .before .before .before .before) in (a .count-range .1, a .buckets-range .1, omega arith)
+write-pairs-requires : tie.Need-write-pairs-requires
+write-pairs-requires c κs =
+    let to-thresholds = c .before .before .before .before .before .before .before .before in
+    let to-header = to-thresholds .before .before .before .before .before .before .before .before .before in
+    let a = kept (to-header .before .before .before) in
+    (search needs, search needs, omega arith)
 
 same-length : tie.Need-same-length
 same-length c = search needs
 
 returns-3 : tie.Need-returns-3
-unfolding formSize bucketOffset
+unfolding formSize bucketOffset thresholdEntries bucketEntries
 returns-3 c =
-    let a = c .before .before .before .before .before .before .before .before .before .before .before .before .before .before .before .before .before .before .args in
-    let r = c .before .before .before .before .before .before .before .before .before .before .before .before .before .before .before .before .plan-refusal in
-    let z = c .before .before .before .before .before .before .before .before .before .before .before .before .before .before .before .if1 .left in
-    let w = written-none (a .p) (a .bytes .now) (room (a .p) (a .bytes .now) (r .result) (r .ensures) z (c .before .before .before .before .before .before .before .before .before .before .before .before .if2 .left)) in
-    (rw z (w .0), put-form (a .p) (a .bytes .now) _ _ _ (c .before .before .before .before .before .before .before .before .before .before .write-header .ensures) (c .before .before .before .before .before .before .write-thresholds .ensures) (c .before .before .write-buckets .ensures) ∙ w .1)
+    let to-buckets = c .before .before in
+    let to-thresholds = to-buckets .before .before .before .before .before .before .before .before .before in
+    let to-header = to-thresholds .before .before .before .before .before .before .before .before .before in
+    let to-size = to-header .before .before in
+    let a = to-size .before .before .before .before .args in
+    let r = to-size .before .before .plan-refusal in
+    let z = to-size .before .if1 .left in
+    let w = written-none (a .t1) (a .bytes .now) (room (a .t1) (a .bytes .now) (r .result) (r .ensures) z (to-size .if2 .left)) in
+    let head = to-header .write-header .ensures in
+    let put = put-form (a .t1) (a .bytes .now) _ _ _ head (to-thresholds .write-long-pairs .ensures) (to-buckets .write-pairs .ensures) in
+    (rw z (w .0), put ∙ w .1)
 
 pub write-plan-spec : {M : Type 1} → statement M
 write-plan-spec =
@@ -77,15 +90,15 @@ write-plan-spec =
     (tie.spec
     plan-refusal-requires
     returns
-    cast-size
+    cast-k
+    cast-b
+    mul-at
+    add-at
     mul-size
     add-size
-    cast-size-2
-    mul-size-2
-    add-size-2
     returns-2
     write-header-requires
-    write-thresholds-requires
-    write-buckets-requires
+    write-long-pairs-requires
+    write-pairs-requires
     same-length
     returns-3)

@@ -1,0 +1,78 @@
+-- `fields_in` meets its contract: the table is filled up to place i. Assumes nothing.
+use mathlib.Core.Path.{_≡_, refl}
+use Prim.Native.Nat.{_-_, _≤_}
+use native.Mathlib.Omega.{arith}
+use borrow.Author.Needs.{needs}
+use lib.ListN.{length}
+use Rattle.bucket_test.specs.Tests.{overTo}
+use Rattle.stored_plan.specs.Little.{column}
+use Rattle.stored_plan.specs.Reading.{filled}
+use Rattle.stored_plan.proofs.ReadingLaws.{fill-next}
+use Rattle.stored_plan.proofs.reading.fields_in.Statement.{statement}
+use Rattle.stored_plan.proofs.reading.fields_in.Tie as tie
+
+abbrev Inv-loop : tie.InvT-loop
+Inv-loop bytes at stride width count table₀ i₀ table i =
+    (i ≤ count) × (length table ≡ length table₀) × (table ≡ filled i (column width at stride bytes) table₀)
+
+abbrev μ-loop : tie.MeasureT-loop
+μ-loop bytes at stride width count table₀ i₀ table i = count - i
+
+loop-holds : tie.Need-loop-holds Inv-loop μ-loop
+unfolding filled overTo
+loop-holds c = (omega arith, refl, refl)
+
+mul-read-u32 : tie.Need-mul-read-u32 Inv-loop μ-loop
+mul-read-u32 c = record { fits = omega (arith, c .before .before .before .before .pre .2 (c .before .loop .i) (c .loop-test .taken)) }
+
+add-read-u32 : tie.Need-add-read-u32 Inv-loop μ-loop
+add-read-u32 c = record { fits = omega (arith, c .before .before .before .before .pre .2 (c .before .loop .i) (c .loop-test .taken)) }
+
+read-u32-requires : tie.Need-read-u32-requires Inv-loop μ-loop
+read-u32-requires c κs = let pre = c .before .before .before .before .pre in (pre .2 (c .before .loop .i) (c .loop-test .taken), pre .0)
+
+mul-table : tie.Need-mul-table Inv-loop μ-loop
+mul-table c = search needs
+
+slice-write-table : tie.Need-slice-write-table Inv-loop μ-loop
+slice-write-table c = search needs
+
+add-i : tie.Need-add-i Inv-loop μ-loop
+add-i c = search needs
+
+loop-less : tie.Need-loop-less Inv-loop μ-loop
+loop-less c = search needs
+
+loop-again : tie.Need-loop-again Inv-loop μ-loop
+loop-again c =
+    let l = c .before .before .loop in
+    let a = c .before .before .before .before .before .args in
+    let f = column (a .width) (a .at) (a .stride) (a .bytes .now) in
+    (omega arith, search needs, fill-next (l .i) f (a .table .now) (l .table) (l .inv .2) (c .read-u32 .result) (c .read-u32 .ensures .0))
+
+same-length : tie.Need-same-length Inv-loop μ-loop
+same-length c = search needs
+
+returns : tie.Need-returns Inv-loop μ-loop
+returns c =
+    let l = c .before .loop in
+    let n : l .i ≡ c .before .before .before .before .args .count = omega arith in
+    rw (← n) (l .inv .2)
+
+pub fields-in-spec : {M : Type 1} → statement M
+fields-in-spec =
+    tie.close
+    (tie.spec
+    Inv-loop
+    μ-loop
+    loop-holds
+    mul-read-u32
+    add-read-u32
+    read-u32-requires
+    mul-table
+    slice-write-table
+    add-i
+    loop-less
+    loop-again
+    same-length
+    returns)

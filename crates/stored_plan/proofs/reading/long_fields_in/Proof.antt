@@ -1,0 +1,78 @@
+-- `long_fields_in` meets its contract: as `fields_in`. Assumes nothing.
+use mathlib.Core.Path.{_≡_, refl}
+use Prim.Native.Nat.{_-_, _≤_}
+use native.Mathlib.Omega.{arith}
+use borrow.Author.Needs.{needs}
+use lib.ListN.{length}
+use Rattle.bucket_test.specs.Tests.{overTo}
+use Rattle.stored_plan.specs.Little.{column}
+use Rattle.stored_plan.specs.Reading.{filled}
+use Rattle.stored_plan.proofs.ReadingLaws.{fill-next}
+use Rattle.stored_plan.proofs.reading.long_fields_in.Statement.{statement}
+use Rattle.stored_plan.proofs.reading.long_fields_in.Tie as tie
+
+abbrev Inv-loop : tie.InvT-loop
+Inv-loop bytes at stride width count table₀ i₀ table i =
+    (i ≤ count) × (length table ≡ length table₀) × (table ≡ filled i (column width at stride bytes) table₀)
+
+abbrev μ-loop : tie.MeasureT-loop
+μ-loop bytes at stride width count table₀ i₀ table i = count - i
+
+loop-holds : tie.Need-loop-holds Inv-loop μ-loop
+unfolding filled overTo
+loop-holds c = (omega arith, refl, refl)
+
+mul-read-le : tie.Need-mul-read-le Inv-loop μ-loop
+mul-read-le c = record { fits = omega (arith, c .before .before .before .before .pre .2 (c .before .loop .i) (c .loop-test .taken)) }
+
+add-read-le : tie.Need-add-read-le Inv-loop μ-loop
+add-read-le c = record { fits = omega (arith, c .before .before .before .before .pre .2 (c .before .loop .i) (c .loop-test .taken)) }
+
+read-le-requires : tie.Need-read-le-requires Inv-loop μ-loop
+read-le-requires c κs = let pre = c .before .before .before .before .pre in (pre .2 (c .before .loop .i) (c .loop-test .taken), pre .0)
+
+mul-table : tie.Need-mul-table Inv-loop μ-loop
+mul-table c = search needs
+
+slice-write-table : tie.Need-slice-write-table Inv-loop μ-loop
+slice-write-table c = search needs
+
+add-i : tie.Need-add-i Inv-loop μ-loop
+add-i c = search needs
+
+loop-less : tie.Need-loop-less Inv-loop μ-loop
+loop-less c = search needs
+
+loop-again : tie.Need-loop-again Inv-loop μ-loop
+loop-again c =
+    let l = c .before .before .loop in
+    let a = c .before .before .before .before .before .args in
+    let f = column (a .width) (a .at) (a .stride) (a .bytes .now) in
+    (omega arith, search needs, fill-next (l .i) f (a .table .now) (l .table) (l .inv .2) (c .read-le .result) (c .read-le .ensures .0))
+
+same-length : tie.Need-same-length Inv-loop μ-loop
+same-length c = search needs
+
+returns : tie.Need-returns Inv-loop μ-loop
+returns c =
+    let l = c .before .loop in
+    let n : l .i ≡ c .before .before .before .before .args .count = omega arith in
+    rw (← n) (l .inv .2)
+
+pub long-fields-in-spec : {M : Type 1} → statement M
+long-fields-in-spec =
+    tie.close
+    (tie.spec
+    Inv-loop
+    μ-loop
+    loop-holds
+    mul-read-le
+    add-read-le
+    read-le-requires
+    mul-table
+    slice-write-table
+    add-i
+    loop-less
+    loop-again
+    same-length
+    returns)
