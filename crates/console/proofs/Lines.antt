@@ -1,15 +1,15 @@
 -- Bytes put behind a text, and how many digits a number has. Assumes nothing.
 use mathlib.Core.Path.{_≡_, refl, sym, ap, _∙_}
-use mathlib.Core.Logic.{_⊎_, inl, inr}
 use mathlib.Core.Bool.{Bool, true, false}
 use mathlib.Core.List.{List, _++_, append-assoc}
-use Prim.Native.Nat.{ℕ, zero, suc, _+_, _-_, _^_, _≤_, _<_}
-use native.Mathlib.Nat.{eq-or-lt-of-le, pow-le-pow-right}
+use Prim.Native.Nat.{ℕ, suc, _+_, _-_, _^_, _≤_, _<_}
+use native.Mathlib.Nat.{pow-le-pow-right}
 use native.Mathlib.Omega.{arith}
 use lib.ListN.{length, take, drop, length-append}
 use lib.Seq.{take-length, length-take-le, paste}
 use Rattle.io.specs.Digits.{digits, Fewest}
-use Rattle.walk.specs.Numbers.{le?, lt?, searchUp}
+use Rattle.walk.specs.Numbers.{le?, lt?}
+use Rattle.walk.proofs.Searches.{search-only}
 use Rattle.walk.proofs.Tests.{Le?, le, gt, test, le?-complete, le?-fails}
 use Rattle.stored_plan.specs.Little.{putAt}
 use Rattle.stored_plan.proofs.Putting.{then, put-first}
@@ -47,18 +47,6 @@ holds-more {text} {bytes} {before} {between} {after} {at} {next} h p =
     let first : Puts text 0 at before between =
     record { behind = omega (arith, h .size); whole = h .whole ∙ rw (h .size) (sym (put-first text before)) } in
     begins (puts-more (omega arith) first p)
-
--- a search finds the first that passes
-search-only : (n j r : ℕ) (p : ℕ → Bool) → j ≤ r → r ≤ j + n → (r < j + n → p r ≡ true) → ((i : ℕ) → j ≤ i → i < r → p i ≡ false)
-    → searchUp n j p ≡ r
-unfolding searchUp
-search-only zero j r p l h hit miss = omega arith
-search-only (suc n) j r p l h hit miss =
-    go (eq-or-lt-of-le l) (λ k. search-only n (suc j) r p k (omega arith) (λ x. hit (omega arith)) (λ i x y. miss i (omega arith) y))
-  where
-    go : (j ≡ r) ⊎ (j < r) → (j < r → searchUp n (suc j) p ≡ r) → searchUp (suc n) j p ≡ r
-    go (inl e) rest = let t : p j ≡ true = rw e (hit (omega arith)) in rw (t, e)
-    go (inr k) rest = rw (miss j (omega arith) k) (rest k)
 
 -- the fewest digits that hold a number
 module _ (n r : ℕ) (f : Fewest 10 1 n r) where

@@ -1,14 +1,15 @@
 -- Lengths of the parts of a stored form, and entries written one behind the other (specs/Form). Assumes nothing.
-use mathlib.Core.Path.{_≡_, sym, ap, _∙_}
+use mathlib.Core.Path.{_≡_, ap, _∙_}
 use mathlib.Core.List.{List, _++_, append-assoc}
 use mathlib.Core.Logic.{⊎-elim}
 use Prim.Native.Nat.{ℕ, zero, suc, _+_, _*_, _≤_, _<_}
-use native.Mathlib.Nat.{eq-or-lt-of-le, mul-zero, mul-suc}
+use native.Mathlib.Nat.{eq-or-lt-of-le}
 use native.Mathlib.Numerals.{add-one}
 use native.Mathlib.Omega.{arith}
 use lib.ListN.{length, drop, getD, length-append}
 use Rattle.bucket_test.specs.Tests.{joinTo}
 use Rattle.bucket_test.specs.declared.Plan.{Plan}
+use Rattle.bucket_test.proofs.PlaceLists.{join-length}
 use Rattle.stored_plan.specs.Little.{toLE, field, putAt}
 use Rattle.stored_plan.specs.Form.{pair, headerSize, bucketOffset, formSize, header, thresholdEntries, bucketEntries, encoded}
 use Rattle.stored_plan.proofs.LittleLaws.{to-length, field-left, field-right}
@@ -16,9 +17,7 @@ use Rattle.stored_plan.proofs.Putting.{put-first, then}
 
 module _ (g : ℕ → List ℕ) (size : ℕ) (each : (i : ℕ) → length (g i) ≡ size) where
   join-size : (n : ℕ) → length (joinTo n g) ≡ size * n
-  unfolding joinTo
-  join-size zero = sym (mul-zero size)
-  join-size (suc n) = omega (arith, length-append (joinTo n g) (g n), join-size n, each n, mul-suc size n)
+  join-size n = join-length g size n (λ i l. each i)
 
   -- one entry more, behind those that a loop has put from an offset on
   put-next : (at i : ℕ) (bytes bytes′ bytes″ : List ℕ) → bytes′ ≡ putAt at (joinTo i g) bytes → bytes″ ≡ putAt (at + size * i) (g i) bytes′

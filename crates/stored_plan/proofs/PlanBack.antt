@@ -1,14 +1,13 @@
 -- An accepted plan's form is read back: the plan with zeros past its counts. Assumes nothing.
 use mathlib.Core.Path.{_≡_, refl, _∙_}
 use mathlib.Core.List.{[], _++_, append-assoc, append-nil}
-use mathlib.Core.Logic.{inl, inr}
 use Prim.Native.Nat.{ℕ, _+_, _*_, _≤_, _<_}
 use native.Mathlib.Omega.{arith}
 use lib.ListN.{replicate}
 use Rattle.walk.specs.Units.{million, allowanceLimit, horizonLimit}
-use Rattle.bucket_test.specs.Plan.{thresholdAt, allowanceAt, leftAt, rightAt, Permitted, Accepted}
+use Rattle.bucket_test.specs.Plan.{thresholdAt, allowanceAt, leftAt, rightAt, Accepted}
 use Rattle.bucket_test.specs.declared.Plan.{Plan}
-use Rattle.bucket_test.proofs.Rules.{accepted}
+use Rattle.bucket_test.proofs.Rules.{accepted, permitted-le}
 use Rattle.bucket_test.proofs.Ignored.{ignored}
 use Rattle.stored_plan.specs.Little.{toLE, field}
 use Rattle.stored_plan.specs.Form.{pair, headerSize, bucketOffset, header, thresholdEntries, bucketEntries, encoded}
@@ -56,12 +55,6 @@ same p k b = record {
 -- ---- the form of an accepted plan, field by field
 
 module _ (p : Plan) (a : Accepted p) where
-  permitted-le : (e : ℕ) → Permitted p e → e ≤ 1000000
-  unfolding million
-  permitted-le e (inl z) = omega arith
-  permitted-le e (inr (inl z)) = omega arith
-  permitted-le e (inr (inr (i, l, z))) = omega (arith, a .threshold-range i l .1)
-
   -- the fields of the header, one behind the other
   unrolled : encoded p
       ≡ toLE 2 (p .count) ++ (toLE 2 (p .buckets) ++ (toLE 2 headerSize ++ (toLE 2 (bucketOffset (p .count))
@@ -129,15 +122,17 @@ module _ (p : Plan) (a : Accepted p) where
       ∙ field-last 8 (allowanceAt p i) (omega (arith, a .allowance-range i l .1))
 
   in-left : (j : ℕ) → j < p .buckets → field 4 (bucketOffset (p .count) + 8 * j) (encoded p) ≡ leftAt p j
+  unfolding million
   in-left j l =
       in-ends j 4 0 (bucketOffset (p .count) + 8 * j) l (omega arith) (omega arith)
-      ∙ field-here 4 (leftAt p j) (toLE 4 (rightAt p j)) (omega (arith, permitted-le (leftAt p j) (a .ends-permitted j l .0)))
+      ∙ field-here 4 (leftAt p j) (toLE 4 (rightAt p j)) (omega (arith, permitted-le p a (leftAt p j) (a .ends-permitted j l .0)))
 
   in-right : (j : ℕ) → j < p .buckets → field 4 (bucketOffset (p .count) + 4 + 8 * j) (encoded p) ≡ rightAt p j
+  unfolding million
   in-right j l =
       in-ends j 4 4 (bucketOffset (p .count) + 4 + 8 * j) l (omega arith) (omega arith)
       ∙ field-next 4 0 4 (leftAt p j) (toLE 4 (rightAt p j))
-      ∙ field-last 4 (rightAt p j) (omega (arith, permitted-le (rightAt p j) (a .ends-permitted j l .1)))
+      ∙ field-last 4 (rightAt p j) (omega (arith, permitted-le p a (rightAt p j) (a .ends-permitted j l .1)))
 
   -- ---- the plan that its form holds
 

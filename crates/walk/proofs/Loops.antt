@@ -11,7 +11,6 @@ use lib.Seq.{take-suc-set, append-snoc, drop-set-lt, drop-cons, take-all, set-sp
 use Rattle.walk.specs.Numbers.{le?, sum, allUpTo}
 use Rattle.walk.specs.Mass.{massUp}
 use Rattle.walk.specs.Row.{cellsBy, newMasses, kept, dropped}
-use Rattle.walk.proofs.Tests.{le?-complete}
 use Rattle.walk.proofs.Lists.{sum-take-suc, sum-take-drop, sum-drop-suc, sum-drop-falls, all-cons}
 use Rattle.walk.proofs.Cuts.{Keeps, keeps, Drops, drops}
 
