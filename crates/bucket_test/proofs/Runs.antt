@@ -1,22 +1,37 @@
 -- A run of draws is the same test as the list: what `drawnOn` hands back is what the draws handed to the test give, one by one; and how a
 -- run is cut does not matter. Assumes nothing.
-use mathlib.Core.Path.{_≡_, refl}
+use mathlib.Core.Path.{_≡_, refl, sym, ap, _∙_}
 use mathlib.Core.Bool.{Bool, true, false}
 use mathlib.Core.List.{List, [], _∷_, _++_}
 use Prim.Native.Nat.{ℕ, zero, suc, _<_}
 use native.Mathlib.Omega.{arith}
 use lib.ListN.{take}
+use Rattle.walk.proofs.Tests.{clash}
 use Rattle.bucket_test.specs.Answers.{goesOn}
 use Rattle.bucket_test.specs.Draw.{Outcome, whileOpen, drawn, drawnOn}
 use Rattle.bucket_test.specs.Carried.{carried, after, RunsTo, RunTheorem}
 use Rattle.bucket_test.proofs.DrawingLaws.{run-stops}
 use Rattle.bucket_test.specs.declared.Plan.{Plan}
+use Rattle.bucket_test.specs.declared.Answer.{Answer}
+use Rattle.bucket_test.specs.declared.Answer.the-variants.{Open, Decided, Crossed, Wide, Spent, Refused}
+
+-- a test goes on after `open` and after no other answer
+open-is : (a : Answer) → goesOn a ≡ true → a ≡ Open
+open-is Open e = refl
+open-is (Decided b) e = clash (sym e)
+open-is Crossed e = clash (sym e)
+open-is Wide e = clash (sym e)
+open-is Spent e = clash (sym e)
+open-is (Refused r) e = clash (sym e)
+
+not-open : (a : Answer) → goesOn a ≡ false → ¬ (a ≡ Open)
+not-open a e h = clash (sym (ap goesOn h) ∙ e)
 
 module _ (p : Plan) (words : List ℕ) where
   -- the answer before a run is not open, or it is
   stopped : (ds es : List ℕ) → goesOn (carried p words ds .answer) ≡ false → RunsTo p words ds es (carried p words ds)
   unfolding after
-  stopped ds es e = record { handed = 0; few = omega arith; open-before = λ k l. absurd (omega arith); stops = λ l. e; outcome = refl }
+  stopped ds es e = record { handed = 0; few = omega arith; open-before = λ k l. absurd (omega arith); stops = λ l. not-open (carried p words ds .answer) e; outcome = refl }
 
   went-on : (ds : List ℕ) (d : ℕ) (es : List ℕ) (o : Outcome) → goesOn (carried p words ds .answer) ≡ true → RunsTo p words (d ∷ ds) es o
       → RunsTo p words ds (d ∷ es) o
@@ -29,8 +44,8 @@ module _ (p : Plan) (words : List ℕ) where
     outcome = rest .outcome;
   }
     where
-      before : (k : ℕ) → k < suc (rest .handed) → goesOn (carried p words (after ds (take k (d ∷ es))) .answer) ≡ true
-      before zero l = e
+      before : (k : ℕ) → k < suc (rest .handed) → carried p words (after ds (take k (d ∷ es))) .answer ≡ Open
+      before zero l = open-is (carried p words ds .answer) e
       before (suc k) l = rest .open-before k (omega arith)
 
   run-all : (ds es : List ℕ) → RunsTo p words ds es (drawnOn p (carried p words ds) es)

@@ -7,9 +7,10 @@ use Prim.Native.Nat.{ℕ, zero, suc, _≤_, _<_}
 use lib.ListN.{length, take}
 use Rattle.walk.specs.Numbers.{le?}
 use Rattle.walk.specs.Strings.{Draws}
-use Rattle.bucket_test.specs.Answers.{isEnding, goesOn, refusalOf}
+use Rattle.bucket_test.specs.Answers.{isEnding, refusalOf}
 use Rattle.bucket_test.specs.Draw.{Outcome, begun, drawn, drawnOn}
 use Rattle.bucket_test.specs.declared.Plan.{Plan}
+use Rattle.bucket_test.specs.declared.Answer.the-variants.{Open}
 
 -- what the last call handed back, after the draws ds from a beginning on these words
 unfoldable pub carried : Plan → List ℕ → List ℕ → Outcome
@@ -40,8 +41,8 @@ after ds (e ∷ es) = after (e ∷ ds) es
 pub record RunsTo (p : Plan) (words ds es : List ℕ) (o : Outcome) : Type 0 where
   pub handed : ℕ
   pub few : handed ≤ length es
-  pub open-before : (k : ℕ) → k < handed → goesOn (carried p words (after ds (take k es)) .answer) ≡ true
-  pub stops : handed < length es → goesOn (o .answer) ≡ false
+  pub open-before : (k : ℕ) → k < handed → carried p words (after ds (take k es)) .answer ≡ Open
+  pub stops : handed < length es → ¬ (o .answer ≡ Open)
   pub outcome : o ≡ carried p words (after ds (take handed es))
 
 -- of every plan, all lent words, and every two lists
