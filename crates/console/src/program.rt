@@ -8,8 +8,14 @@ use bucket_test::Plan;
 use bucket_test::drawing::begin;
 use bucket_test::drawing::is_open;
 use stored_plan::reading::read_plan;
+ghost use mathlib.Core.Path.{_≡_};
+ghost use mathlib.Core.Bool.{_&&_};
+ghost use lib.ListN.{length};
 ghost use Rattle.io.specs.Counts.{Counts};
-ghost use Rattle.bucket_test.specs.Draw.{outcomeOf};
+ghost use Rattle.walk.specs.Numbers.{lt?};
+ghost use Rattle.bucket_test.specs.Answers.{goesOn};
+ghost use Rattle.bucket_test.specs.Draw.{outcomeOf, drawnOn};
+ghost use Rattle.console.specs.Input.{drawsOf};
 ghost use Rattle.console.specs.Program.{Taken, Prints, Ran, played, served};
 
 // Where a test stands, and whether it takes more.
@@ -18,17 +24,28 @@ struct Turn {
     drawn: Drawn,
 }
 
-// One read, and the characters that it gave; none at the end of input.
+// The characters of one read; none of them is the end of input, and takes no more.
+fn take_chunk(p: Plan, d: Drawn, words: &mut [u64], chunk: &mut [u8]) -> Turn
+    ensures { λ r. ⌜
+        (outcomeOf (r .drawn) (now (words .exit)) ≡ drawnOn p (outcomeOf d (now (words .entry))) (drawsOf (now (chunk .entry))))
+        × (r .more ≡ lt? 0 (length (now (chunk .entry))) && goesOn (r .drawn .answer))
+        ⌝ }
+{
+    let some = chunk.len() > 0;
+    let drawn = feed(p, d, words, chunk);
+    let answer = drawn.answer;
+    let more = some && is_open(answer);
+    Turn { more, drawn }
+}
+
+// One read, and the characters that it gave.
 fn take_some(p: Plan, d: Drawn, input: i32, words: &mut [u64]) -> Turn
     ensures { λ r. ⌜ Taken p (outcomeOf d (now (words .entry))) (r .drawn) (now (words .exit)) ⌝ }
 {
     let mut chunk = [0u8; 4096];
     let got = libc::read(input, &mut chunk);
     let n = io::count(got, &chunk);
-    let drawn = feed(p, d, words, &mut chunk[0..n]);
-    let answer = drawn.answer;
-    let more = n > 0 && is_open(answer);
-    Turn { more, drawn }
+    take_chunk(p, d, words, &mut chunk[0..n])
 }
 
 // Reads up to an answer that is not `open`, or the end of input. A proved loop has to end: it counts its turns down, from a number that no

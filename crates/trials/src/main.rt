@@ -52,6 +52,9 @@ fn main() {
     trial(b"f.plan", b"foreign", &mut words);
     trial(b"f.plan", b"newlines", &mut words);
     trial(b"f.plan", b"after", &mut words);
+    trial(b"f.plan", b"far", &mut words);
+    trial(b"longest.plan", b"none", &mut words);
+    trial(b"overlong.plan", b"none", &mut words);
     after_the_end(2);
     after_the_end(1);
 }
