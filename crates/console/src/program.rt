@@ -24,7 +24,7 @@ struct Turn {
     drawn: Drawn,
 }
 
-// The characters of one read; none of them is the end of input, and takes no more.
+// The characters that one read gave. More is taken after an `open` answer, and not where there were none: the input has ended.
 fn take_chunk(p: Plan, d: Drawn, words: &mut [u64], chunk: &mut [u8]) -> Turn
     ensures { λ r. ⌜
         (outcomeOf (r .drawn) (now (words .exit)) ≡ drawnOn p (outcomeOf d (now (words .entry))) (drawsOf (now (chunk .entry))))
