@@ -19,6 +19,11 @@ use states::state_in;
 use states::state_out;
 use stored_plan::reading::read_plan;
 use stored_plan::writing::write_plan;
+ghost use mathlib.Core.Path.{_≡_};
+ghost use Rattle.bucket_test.specs.Plan.{planRefusal};
+ghost use Rattle.bucket_test.specs.Draw.{begun};
+ghost use Rattle.stored_plan.specs.Reading.{decoded};
+ghost use Rattle.host.specs.Plans.{planIn, planOut};
 
 // A plan, with the number of its refusal where one was asked for.
 #[repr(C)]
@@ -73,12 +78,16 @@ pub struct HostWritten {
 }
 
 #[no_mangle]
-pub extern "C" fn host_plan_refusal(p: HostPlan) -> u32 {
+pub extern "C" fn host_plan_refusal(p: HostPlan) -> u32
+    ensures { λ r. ⌜ r ≡ planRefusal (planIn p) ⌝ }
+{
     plan_refusal(plan_in(p))
 }
 
 #[no_mangle]
-pub extern "C" fn host_begin(p: HostPlan, words: &mut [u64]) -> HostState {
+pub extern "C" fn host_begin(p: HostPlan, words: &mut [u64]) -> HostState
+    ensures { λ _. ⌜ now (words .exit) ≡ begun (planIn p) (now (words .entry)) .words ⌝ }
+{
     let drawn = begin(plan_in(p), words);
     let answer = drawn.answer;
     let state = drawn.state;
@@ -123,7 +132,9 @@ pub extern "C" fn host_report_on(p: HostPlan, s: HostState) -> HostReport {
 }
 
 #[no_mangle]
-pub extern "C" fn host_read_plan(bytes: &[u8]) -> HostPlan {
+pub extern "C" fn host_read_plan(bytes: &[u8]) -> HostPlan
+    ensures { λ r. ⌜ r ≡ planOut (decoded (now (bytes .entry)) .refusal) (decoded (now (bytes .entry)) .plan) ⌝ }
+{
     let read = read_plan(bytes);
     let plan = read.plan;
     plan_out(read.refusal, plan)

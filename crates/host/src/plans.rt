@@ -2,8 +2,12 @@
 
 use crate::HostPlan;
 use bucket_test::Plan;
+ghost use mathlib.Core.Path.{_≡_};
+ghost use Rattle.host.specs.Plans.{planIn, planOut};
 
-pub fn plan_in(p: HostPlan) -> Plan {
+pub fn plan_in(p: HostPlan) -> Plan
+    ensures { λ r. ⌜ r ≡ planIn p ⌝ }
+{
     let thresholds = p.thresholds;
     let allowances = p.allowances;
     let left = p.left;
@@ -20,17 +24,19 @@ pub fn plan_in(p: HostPlan) -> Plan {
     }
 }
 
-pub fn plan_out(refusal: u32, p: Plan) -> HostPlan {
-    let thresholds = p.thresholds;
-    let allowances = p.allowances;
-    let left = p.left;
-    let right = p.right;
+pub fn plan_out(refusal: u32, plan: Plan) -> HostPlan
+    ensures { λ r. ⌜ r ≡ planOut refusal plan ⌝ }
+{
+    let thresholds = plan.thresholds;
+    let allowances = plan.allowances;
+    let left = plan.left;
+    let right = plan.right;
     HostPlan {
         refusal,
-        count: p.count,
-        buckets: p.buckets,
-        delay: p.delay,
-        horizon: p.horizon,
+        count: plan.count,
+        buckets: plan.buckets,
+        delay: plan.delay,
+        horizon: plan.horizon,
         thresholds,
         allowances,
         left,

@@ -1,0 +1,29 @@
+-- A plan as it comes in and as it goes out, field by field.
+use Prim.Native.Nat.{ℕ}
+use Rattle.bucket_test.specs.declared.Plan.{Plan}
+use Rattle.host.specs.declared.HostPlan.{HostPlan}
+
+abbrev pub planIn : HostPlan → Plan
+planIn p = record {
+  count = p .count;
+  buckets = p .buckets;
+  delay = p .delay;
+  horizon = p .horizon;
+  thresholds = p .thresholds;
+  allowances = p .allowances;
+  left = p .left;
+  right = p .right;
+}
+
+abbrev pub planOut : ℕ → Plan → HostPlan
+planOut refusal p = record {
+  refusal = refusal;
+  count = p .count;
+  buckets = p .buckets;
+  delay = p .delay;
+  horizon = p .horizon;
+  thresholds = p .thresholds;
+  allowances = p .allowances;
+  left = p .left;
+  right = p .right;
+}
