@@ -23,6 +23,7 @@ ghost use mathlib.Core.Path.{_≡_};
 ghost use Rattle.bucket_test.specs.Plan.{planRefusal};
 ghost use Rattle.bucket_test.specs.Draw.{begun};
 ghost use Rattle.stored_plan.specs.Reading.{decoded};
+ghost use Rattle.stored_plan.specs.Writing.{written, bytesAfter};
 ghost use Rattle.host.specs.Plans.{planIn, planOut};
 
 // A plan, with the number of its refusal where one was asked for.
@@ -141,7 +142,13 @@ pub extern "C" fn host_read_plan(bytes: &[u8]) -> HostPlan
 }
 
 #[no_mangle]
-pub extern "C" fn host_write_plan(p: HostPlan, bytes: &mut [u8]) -> HostWritten {
+pub extern "C" fn host_write_plan(p: HostPlan, bytes: &mut [u8]) -> HostWritten
+    ensures { λ r. ⌜
+        (r .refusal ≡ written (planIn p) (now (bytes .entry)) .refusal)
+        × (r .size ≡ written (planIn p) (now (bytes .entry)) .size)
+        × (now (bytes .exit) ≡ bytesAfter (planIn p) (now (bytes .entry)))
+        ⌝ }
+{
     let written = write_plan(plan_in(p), bytes);
     HostWritten {
         refusal: written.refusal,
