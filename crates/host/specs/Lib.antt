@@ -1,2 +1,3 @@
 -- What a reader of this crate has to believe. Definitions only.
 pub mod Plans
+pub mod States

@@ -4,7 +4,6 @@
 mod plans;
 mod states;
 
-use bucket_test::Drawn;
 use bucket_test::drawing::begin;
 use bucket_test::drawing::draw;
 use bucket_test::drawing::draw_all;
@@ -12,19 +11,19 @@ use bucket_test::drawing::report_on;
 use bucket_test::plan_check::plan_refusal;
 use plans::plan_in;
 use plans::plan_out;
-use states::answer_in;
-use states::answer_kind;
-use states::answer_number;
+use states::drawn_in;
+use states::drawn_out;
+use states::report_out;
 use states::state_in;
-use states::state_out;
 use stored_plan::reading::read_plan;
 use stored_plan::writing::write_plan;
 ghost use mathlib.Core.Path.{_≡_};
 ghost use Rattle.bucket_test.specs.Plan.{planRefusal};
-ghost use Rattle.bucket_test.specs.Draw.{begun};
+ghost use Rattle.bucket_test.specs.Draw.{drawnOf, outcomeOf, begun, drawn, report, drawnOn};
 ghost use Rattle.stored_plan.specs.Reading.{decoded};
 ghost use Rattle.stored_plan.specs.Writing.{written, bytesAfter};
 ghost use Rattle.host.specs.Plans.{planIn, planOut};
+ghost use Rattle.host.specs.States.{stateIn, drawnIn, drawnOut, reportOut};
 
 // A plan, with the number of its refusal where one was asked for.
 #[repr(C)]
@@ -87,20 +86,22 @@ pub extern "C" fn host_plan_refusal(p: HostPlan) -> u32
 
 #[no_mangle]
 pub extern "C" fn host_begin(p: HostPlan, words: &mut [u64]) -> HostState
-    ensures { λ _. ⌜ now (words .exit) ≡ begun (planIn p) (now (words .entry)) .words ⌝ }
+    ensures { λ r. ⌜
+        (r ≡ drawnOut (drawnOf (begun (planIn p) (now (words .entry)))))
+        × (now (words .exit) ≡ begun (planIn p) (now (words .entry)) .words)
+        ⌝ }
 {
-    let drawn = begin(plan_in(p), words);
-    let answer = drawn.answer;
-    let state = drawn.state;
-    state_out(answer, state)
+    drawn_out(begin(plan_in(p), words))
 }
 
 #[no_mangle]
-pub extern "C" fn host_draw(p: HostPlan, s: HostState, words: &mut [u64], d: u8) -> HostState {
-    let drawn = draw(plan_in(p), state_in(s), words, d);
-    let answer = drawn.answer;
-    let state = drawn.state;
-    state_out(answer, state)
+pub extern "C" fn host_draw(p: HostPlan, s: HostState, words: &mut [u64], d: u8) -> HostState
+    ensures { λ r. ⌜
+        (r ≡ drawnOut (drawnOf (drawn (planIn p) (stateIn s) (now (words .entry)) d)))
+        × (now (words .exit) ≡ drawn (planIn p) (stateIn s) (now (words .entry)) d .words)
+        ⌝ }
+{
+    drawn_out(draw(plan_in(p), state_in(s), words, d))
 }
 
 #[no_mangle]
@@ -109,27 +110,20 @@ pub extern "C" fn host_draw_all(
     s: HostState,
     words: &mut [u64],
     draws: &[u8],
-) -> HostState {
-    let before = Drawn {
-        answer: answer_in(s.answer, s.number),
-        state: state_in(s),
-    };
-    let drawn = draw_all(plan_in(p), before, words, draws);
-    let answer = drawn.answer;
-    let state = drawn.state;
-    state_out(answer, state)
+) -> HostState
+    ensures { λ r. ⌜
+        (r ≡ drawnOut (drawnOf (drawnOn (planIn p) (outcomeOf (drawnIn s) (now (words .entry))) (now (draws .entry)))))
+        × (now (words .exit) ≡ drawnOn (planIn p) (outcomeOf (drawnIn s) (now (words .entry))) (now (draws .entry)) .words)
+        ⌝ }
+{
+    drawn_out(draw_all(plan_in(p), drawn_in(s), words, draws))
 }
 
 #[no_mangle]
-pub extern "C" fn host_report_on(p: HostPlan, s: HostState) -> HostReport {
-    let report = report_on(plan_in(p), state_in(s));
-    let answer = report.answer;
-    HostReport {
-        answer: answer_kind(answer),
-        number: answer_number(answer),
-        low: report.low,
-        high: report.high,
-    }
+pub extern "C" fn host_report_on(p: HostPlan, s: HostState) -> HostReport
+    ensures { λ r. ⌜ r ≡ reportOut (report (planIn p) (stateIn s)) ⌝ }
+{
+    report_out(report_on(plan_in(p), state_in(s)))
 }
 
 #[no_mangle]

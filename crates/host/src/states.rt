@@ -1,100 +1,65 @@
-// A state as it comes in, and a state with an answer as it goes out.
+// A state and an answer as they come in and as they go out.
 
 use crate::HostRecord;
+use crate::HostReport;
 use crate::HostState;
 use bucket_test::Answer;
+use bucket_test::Drawn;
+use bucket_test::Report;
 use bucket_test::State;
 use bucket_test::Threshold;
 use walk::Mark;
 use walk::Walked;
+ghost use mathlib.Core.Path.{_≡_};
+ghost use mathlib.Core.List.{map};
+ghost use Rattle.host.specs.States.{markIn, markCase, markStep, answerIn, answerCase, answerNumber, recordIn, recordOut, stateIn, drawnIn, drawnOut, reportOut};
 
-fn mark_in(mark: u32, step: u32) -> Mark {
-    if mark == 1 {
-        return Mark::Above(step);
-    }
-    if mark == 2 {
-        return Mark::AtMost(step);
-    }
-    Mark::Open
-}
-
-fn record_in(r: HostRecord) -> Threshold {
-    let mark = mark_in(r.mark, r.step);
-    let walked = Walked {
-        lower: r.lower,
-        upper: r.upper,
-        over: r.over,
-        under: r.under,
-    };
-    Threshold { mark, walked }
-}
-
-pub fn state_in(s: HostState) -> State {
-    let records = [
-        record_in(s.records[0]),
-        record_in(s.records[1]),
-        record_in(s.records[2]),
-        record_in(s.records[3]),
-        record_in(s.records[4]),
-        record_in(s.records[5]),
-        record_in(s.records[6]),
-        record_in(s.records[7]),
-        record_in(s.records[8]),
-        record_in(s.records[9]),
-    ];
-    State {
-        n: s.n,
-        ones: s.ones,
-        records,
+fn mark_in(mark: u32, step: u32) -> Mark
+    ensures { λ r. ⌜ r ≡ markIn mark step ⌝ }
+{
+    match mark {
+        1 => Mark::Above(step),
+        2 => Mark::AtMost(step),
+        _ => Mark::Open,
     }
 }
 
-fn record_out(t: Threshold) -> HostRecord {
-    let mut mark = 0;
-    let mut step = 0;
-    let m = t.mark;
+fn mark_case(m: Mark) -> u32
+    ensures { λ r. ⌜ r ≡ markCase m ⌝ }
+{
     match m {
-        Mark::Open => {}
-        Mark::Above(u) => {
-            mark = 1;
-            step = u;
-        }
-        Mark::AtMost(u) => {
-            mark = 2;
-            step = u;
-        }
-    }
-    let w = t.walked;
-    HostRecord {
-        mark,
-        step,
-        lower: w.lower,
-        upper: w.upper,
-        over: w.over,
-        under: w.under,
+        Mark::Open => 0,
+        Mark::Above(_) => 1,
+        Mark::AtMost(_) => 2,
     }
 }
 
-pub fn answer_in(kind: u32, number: u32) -> Answer {
-    if kind == 0 {
-        return Answer::Open;
+fn mark_step(m: Mark) -> u32
+    ensures { λ r. ⌜ r ≡ markStep m ⌝ }
+{
+    match m {
+        Mark::Open => 0,
+        Mark::Above(t) => t,
+        Mark::AtMost(t) => t,
     }
-    if kind == 1 {
-        return Answer::Decided(number);
-    }
-    if kind == 2 {
-        return Answer::Crossed;
-    }
-    if kind == 3 {
-        return Answer::Wide;
-    }
-    if kind == 4 {
-        return Answer::Spent;
-    }
-    Answer::Refused(number)
 }
 
-pub fn answer_kind(a: Answer) -> u32 {
+fn answer_in(case: u32, number: u32) -> Answer
+    ensures { λ r. ⌜ r ≡ answerIn case number ⌝ }
+{
+    match case {
+        0 => Answer::Open,
+        1 => Answer::Decided(number),
+        2 => Answer::Crossed,
+        3 => Answer::Wide,
+        4 => Answer::Spent,
+        _ => Answer::Refused(number),
+    }
+}
+
+fn answer_case(a: Answer) -> u32
+    ensures { λ r. ⌜ r ≡ answerCase a ⌝ }
+{
     match a {
         Answer::Open => 0,
         Answer::Decided(_) => 1,
@@ -105,7 +70,9 @@ pub fn answer_kind(a: Answer) -> u32 {
     }
 }
 
-pub fn answer_number(a: Answer) -> u32 {
+fn answer_number(a: Answer) -> u32
+    ensures { λ r. ⌜ r ≡ answerNumber a ⌝ }
+{
     match a {
         Answer::Open => 0,
         Answer::Decided(bucket) => bucket,
@@ -116,24 +83,99 @@ pub fn answer_number(a: Answer) -> u32 {
     }
 }
 
-pub fn state_out(a: Answer, s: State) -> HostState {
-    let records = [
-        record_out(s.records[0]),
-        record_out(s.records[1]),
-        record_out(s.records[2]),
-        record_out(s.records[3]),
-        record_out(s.records[4]),
-        record_out(s.records[5]),
-        record_out(s.records[6]),
-        record_out(s.records[7]),
-        record_out(s.records[8]),
-        record_out(s.records[9]),
-    ];
-    HostState {
-        answer: answer_kind(a),
-        number: answer_number(a),
+fn record_in(r: HostRecord) -> Threshold
+    ensures { λ t. ⌜ t ≡ recordIn r ⌝ }
+{
+    let mark = mark_in(r.mark, r.step);
+    let walked = Walked {
+        lower: r.lower,
+        upper: r.upper,
+        over: r.over,
+        under: r.under,
+    };
+    Threshold { mark, walked }
+}
+
+fn record_out(t: Threshold) -> HostRecord
+    ensures { λ r. ⌜ r ≡ recordOut t ⌝ }
+{
+    let mark = t.mark;
+    let w = t.walked;
+    HostRecord {
+        mark: mark_case(mark),
+        step: mark_step(mark),
+        lower: w.lower,
+        upper: w.upper,
+        over: w.over,
+        under: w.under,
+    }
+}
+
+fn records_in(rs: [HostRecord; 10]) -> [Threshold; 10]
+    ensures { λ r. ⌜ r ≡ map recordIn rs ⌝ }
+{
+    let mut records = [record_in(rs[0]); 10];
+    for i in 0..10 {
+        records[i] = record_in(rs[i]);
+    }
+    records
+}
+
+fn records_out(ts: [Threshold; 10]) -> [HostRecord; 10]
+    ensures { λ r. ⌜ r ≡ map recordOut ts ⌝ }
+{
+    let mut records = [record_out(ts[0]); 10];
+    for i in 0..10 {
+        records[i] = record_out(ts[i]);
+    }
+    records
+}
+
+pub fn state_in(s: HostState) -> State
+    ensures { λ r. ⌜ r ≡ stateIn s ⌝ }
+{
+    let held = s.records;
+    let records = records_in(held);
+    State {
         n: s.n,
         ones: s.ones,
         records,
+    }
+}
+
+pub fn drawn_in(s: HostState) -> Drawn
+    ensures { λ r. ⌜ r ≡ drawnIn s ⌝ }
+{
+    Drawn {
+        answer: answer_in(s.answer, s.number),
+        state: state_in(s),
+    }
+}
+
+pub fn drawn_out(d: Drawn) -> HostState
+    ensures { λ r. ⌜ r ≡ drawnOut d ⌝ }
+{
+    let answer = d.answer;
+    let s = d.state;
+    let held = s.records;
+    let records = records_out(held);
+    HostState {
+        answer: answer_case(answer),
+        number: answer_number(answer),
+        n: s.n,
+        ones: s.ones,
+        records,
+    }
+}
+
+pub fn report_out(r: Report) -> HostReport
+    ensures { λ h. ⌜ h ≡ reportOut r ⌝ }
+{
+    let answer = r.answer;
+    HostReport {
+        answer: answer_case(answer),
+        number: answer_number(answer),
+        low: r.low,
+        high: r.high,
     }
 }

@@ -16,8 +16,9 @@ same-length c = search needs
 
 returns : tie.Need-returns
 returns c =
-    let w = c .before .before .write-plan .ensures in
-    rw (← (c .before .before .before .before .plan-in .ensures)) (ap (λ (x : Written). x .refusal) (w .0), ap (λ (x : Written). x .size) (w .0), w .1)
+    let b = c .before .before in
+    let w = b .write-plan .ensures in
+    rw (← (b .before .before .plan-in .ensures)) (ap (λ (x : Written). x .refusal) (w .0), ap (λ (x : Written). x .size) (w .0), w .1)
 
 pub host-write-plan-spec : {M : Type 1} → statement M
 host-write-plan-spec =

@@ -1,0 +1,31 @@
+-- What goes out and comes in again is the same outcome: no two cases of an enum share a number. Assumes nothing.
+use mathlib.Core.Path.{_≡_, refl, ap}
+use mathlib.Core.List.{List, [], _∷_, map}
+use Rattle.walk.specs.declared.Mark.{Mark}
+use Rattle.walk.specs.declared.Mark.the-variants.{Open, Above, AtMost}
+use Rattle.bucket_test.specs.declared.Answer.{Answer}
+use Rattle.bucket_test.specs.declared.Answer.the-variants as answers
+use Rattle.bucket_test.specs.declared.Threshold.{Threshold}
+use Rattle.bucket_test.specs.declared.Drawn.{Drawn}
+use Rattle.host.specs.States.{markIn, markCase, markStep, answerIn, answerCase, answerNumber, recordIn, recordOut, drawnIn, drawnOut}
+
+mark-kept : (m : Mark) → markIn (markCase m) (markStep m) ≡ m
+mark-kept Open = refl
+mark-kept (Above t) = refl
+mark-kept (AtMost t) = refl
+
+answer-kept : (a : Answer) → answerIn (answerCase a) (answerNumber a) ≡ a
+answer-kept answers.Open = refl
+answer-kept (answers.Decided b) = refl
+answer-kept answers.Crossed = refl
+answer-kept answers.Wide = refl
+answer-kept answers.Spent = refl
+answer-kept (answers.Refused r) = refl
+
+records-kept : (ts : List Threshold) → map recordIn (map recordOut ts) ≡ ts
+records-kept [] = refl
+records-kept (t ∷ ts) = rw (mark-kept (t .mark), records-kept ts) refl
+
+pub kept : (d : Drawn) → drawnIn (drawnOut d) ≡ d
+unfolding drawnIn drawnOut
+kept d = rw (answer-kept (d .answer), records-kept (d .state .records)) refl

@@ -1,0 +1,78 @@
+-- After i turns the first i records are written.
+use mathlib.Core.Path.{_≡_, refl, _∙_}
+use Prim.Native.Nat.{_-_, _≤_}
+use native.Mathlib.Omega.{arith}
+use lib.ListN.{replicate}
+use Rattle.host.specs.States.{recordOut}
+use Rattle.host.proofs.EachPlace.{written, write-one, write-all}
+use borrow.Author.Needs.{needs}
+use Rattle.host.proofs.states.records_out.Statement.{statement}
+use Rattle.host.proofs.states.records_out.Tie as tie
+
+abbrev Inv-loop : tie.InvT-loop
+Inv-loop ts records₀ i₀ records i = (i ≤ 10) × (records ≡ written recordOut i ts records₀)
+
+abbrev μ-loop : tie.MeasureT-loop
+μ-loop ts records₀ i₀ records i = 10 - i
+
+array-copy-out-record-out : tie.Need-array-copy-out-record-out Inv-loop μ-loop
+array-copy-out-record-out c = search needs
+
+record-out-requires : tie.Need-record-out-requires Inv-loop μ-loop
+record-out-requires c κs = search needs
+
+loop-holds : tie.Need-loop-holds Inv-loop μ-loop
+loop-holds c = (omega arith, refl)
+
+mul-record-out : tie.Need-mul-record-out Inv-loop μ-loop
+mul-record-out c = search needs
+
+array-copy-out-record-out-2 : tie.Need-array-copy-out-record-out-2 Inv-loop μ-loop
+array-copy-out-record-out-2 c = search needs
+
+record-out-requires-2 : tie.Need-record-out-requires-2 Inv-loop μ-loop
+record-out-requires-2 c κs = search needs
+
+mul-records : tie.Need-mul-records Inv-loop μ-loop
+mul-records c = search needs
+
+array-set-from-records : tie.Need-array-set-from-records Inv-loop μ-loop
+array-set-from-records c = search needs
+
+add-i : tie.Need-add-i Inv-loop μ-loop
+add-i c = search needs
+
+loop-less : tie.Need-loop-less Inv-loop μ-loop
+loop-less c = search needs
+
+loop-again : tie.Need-loop-again Inv-loop μ-loop
+loop-again c =
+    let l = c .before .before .before .loop in
+    let given = c .before .before .before .before .before .before .args .t1 in
+    (omega arith, rw (l .inv .1, c .record-out2 .ensures) (write-one recordOut (l .i) given _ _ (search needs) (omega arith)))
+
+returns : tie.Need-returns Inv-loop μ-loop
+returns c =
+    let l = c .before .loop in
+    let given = c .before .before .before .before .args .t1 in
+    let last : l .i ≡ 10 = omega arith in
+    l .inv .1 ∙ rw last (write-all recordOut 10 given (replicate 10 (c .before .before .record-out .result)) (search needs) refl)
+
+pub records-out-spec : {M : Type 1} → statement M
+records-out-spec =
+    tie.close
+    (tie.spec
+    Inv-loop
+    μ-loop
+    array-copy-out-record-out
+    record-out-requires
+    loop-holds
+    mul-record-out
+    array-copy-out-record-out-2
+    record-out-requires-2
+    mul-records
+    array-set-from-records
+    add-i
+    loop-less
+    loop-again
+    returns)
