@@ -7,7 +7,7 @@ use lib.ListN.{getD-replicate}
 use Rattle.walk.specs.Units.{million}
 use Rattle.walk.proofs.Tests.{test, Le?, le, gt}
 use Rattle.walk.proofs.Searches.{search-only}
-use Rattle.walk.proofs.Seams.{start-record as walk-start, start-not-wide}
+use Rattle.walk.proofs.RecordLaws.{start-record as walk-start, start-not-wide}
 use Rattle.bucket_test.specs.Tests.{largestTo, smallestTo}
 use Rattle.bucket_test.specs.Plan.{leftAt, rightAt, Accepted}
 use Rattle.bucket_test.specs.Turn.{startRecord, noRecord, recordAt, wideOpen}

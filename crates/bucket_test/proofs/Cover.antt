@@ -7,7 +7,7 @@ use Prim.Native.Nat.{ℕ, zero, suc, _+_, _*_, _≤_, _<_}
 use native.Mathlib.Nat.{mul-le-mul-right, lt-of-le-of-lt}
 use native.Mathlib.Omega.{arith}
 use Rattle.walk.specs.Units.{million}
-use Rattle.bucket_test.specs.Plan.{leftAt, rightAt, goesOnAt, rule6, Holds, Covered}
+use Rattle.bucket_test.specs.Plan.{leftAt, rightAt, goesOnAt, rule6, Holds, Covered, CoveredTheorem}
 use Rattle.bucket_test.specs.declared.Plan.{Plan}
 use Rattle.bucket_test.proofs.PlaceLaws.{both, either, le-or-lt, le-reads, eq-reads, all-say, any-say}
 
@@ -55,17 +55,17 @@ module _ (p : Plan) where
   unfolding million
   past e h (j, l, (left, right)) = (j, l, (⊎-elim (λ q. omega (arith, q)) (λ q. omega (arith, q)) left, omega arith))
 
-  pub covers : (rule6 p ≡ true) ↔ Covered p
-  unfolding Covered million
-  covers = (
-    λ e x y pos fraction.
-        let b = rule6-says .0 e in
-        let s = b .0 in
-        climb x y fraction (b .1) million (s .0) (s .1) (inr (s .2)) (omega arith),
-    λ c.
-        let s = c 0 1 (omega arith) (omega arith) in
-        rule6-says .1 (
-          (s .0, s .1, ⊎-elim (λ h. absurd (omega arith)) (λ h. h) (s .2 .0)),
-          λ j l. ⊎-elim inl (λ h. inr (past (rightAt p j) h (c (2 * rightAt p j + 1) 2000000 (omega arith) (omega arith)))) (le-or-lt million (rightAt p j)),
-        ),
-  )
+pub covers : CoveredTheorem
+unfolding Covered million
+covers p = (
+  λ e x y pos fraction.
+      let b = rule6-says p .0 e in
+      let s = b .0 in
+      climb p x y fraction (b .1) million (s .0) (s .1) (inr (s .2)) (omega arith),
+  λ c.
+      let s = c 0 1 (omega arith) (omega arith) in
+      rule6-says p .1 (
+        (s .0, s .1, ⊎-elim (λ h. absurd (omega arith)) (λ h. h) (s .2 .0)),
+        λ j l. ⊎-elim inl (λ h. inr (past p (rightAt p j) h (c (2 * rightAt p j + 1) 2000000 (omega arith) (omega arith)))) (le-or-lt million (rightAt p j)),
+      ),
+)

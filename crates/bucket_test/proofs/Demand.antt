@@ -13,7 +13,7 @@ use Rattle.walk.specs.Strings.{Draws, lastStep}
 use Rattle.walk.proofs.Tests.{test, Le?, le, gt, clash}
 use Rattle.walk.proofs.Chances.{meets-says, allowed-always, chances}
 use Rattle.walk.proofs.WalkFacts.{walk-facts}
-use Rattle.walk.proofs.Seams.{mark-nil, narrow-start}
+use Rattle.walk.proofs.RecordLaws.{mark-nil, narrow-start}
 use Rattle.bucket_test.specs.Tests.{unless, firstRefusal}
 use Rattle.bucket_test.specs.Plan.{thresholdAt, spendingOf, planRefusal, Accepted}
 use Rattle.bucket_test.specs.Words.{partAt, Stands}
@@ -26,7 +26,7 @@ use Rattle.bucket_test.proofs.PlaceLists.{words-say}
 use Rattle.bucket_test.proofs.Rules.{threshold-ok, spends, accepted}
 use Rattle.bucket_test.proofs.AnsweringLaws.{rule-answers}
 use Rattle.bucket_test.proofs.Beginning.{start-open}
-use Rattle.bucket_test.proofs.Following.{marks-say, stands-at}
+use Rattle.bucket_test.proofs.OneThreshold.{marks-say, stands-at}
 use Rattle.bucket_test.proofs.Invariant.{markAt, recordAfter, partAfter, stateFor, wordsFor, History, start-state, start-words, record-at, mark-at, part-at, size-at, words-fit, state-sound, next-state, next-words, history-next}
 use Rattle.bucket_test.specs.declared.State.{State}
 use Rattle.bucket_test.specs.declared.Plan.{Plan}

@@ -17,7 +17,7 @@ use Rattle.walk.specs.Record.{isWide}
 use Rattle.walk.specs.declared.Mark.{Mark}
 use Rattle.walk.specs.declared.Mark.the-variants.{Open, Above, AtMost}
 use Rattle.walk.proofs.Tests.{and-true, le?-sound, le?-complete, le?-fails}
-use Rattle.walk.proofs.Checks.{steppable}
+use Rattle.walk.proofs.SoundnessLaws.{steppable}
 use Rattle.bucket_test.specs.Tests.{overTo, joinTo}
 use Rattle.bucket_test.specs.Plan.{thresholdAt, spendingOf, planRefusal, Accepted}
 use Rattle.bucket_test.specs.Words.{partAt, wordsFit}

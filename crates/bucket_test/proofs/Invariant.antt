@@ -14,8 +14,8 @@ use Rattle.walk.specs.Strings.{Draws, ones, lastStep}
 use Rattle.walk.specs.declared.Mark.{Mark}
 use Rattle.walk.specs.declared.Mark.the-variants.{Open}
 use Rattle.walk.proofs.Tests.{test, Le?, le, gt, le?-complete}
-use Rattle.walk.proofs.Checks.{narrow-record}
-use Rattle.walk.proofs.Seams.{markOf, mark-nil, mark-cons}
+use Rattle.walk.proofs.SoundnessLaws.{narrow-record}
+use Rattle.walk.proofs.RecordLaws.{markOf, mark-nil, mark-cons}
 use Rattle.bucket_test.specs.Tests.{overTo, joinTo}
 use Rattle.bucket_test.specs.Plan.{thresholdAt, spendingOf, Accepted}
 use Rattle.bucket_test.specs.Words.{partAt, wordsFit}
@@ -26,7 +26,7 @@ use Rattle.bucket_test.proofs.PlaceLaws.{all-reads}
 use Rattle.bucket_test.proofs.PlaceLists.{over-get, over-over, over-same, words-say, join-cong, join-length, join-part}
 use Rattle.bucket_test.proofs.Rules.{threshold-ok, spends}
 use Rattle.bucket_test.proofs.AnsweringLaws.{not-over, thin-at}
-use Rattle.bucket_test.proofs.Following.{recordFor, partFor, mark-for, start-for, turn-record, turn-part, part-size, record-sound, narrow-on}
+use Rattle.bucket_test.proofs.OneThreshold.{recordFor, partFor, mark-for, start-for, turn-record, turn-part, part-size, record-sound, narrow-on}
 use Rattle.bucket_test.specs.declared.Threshold.{Threshold}
 use Rattle.bucket_test.specs.declared.State.{State}
 use Rattle.bucket_test.specs.declared.Plan.{Plan}

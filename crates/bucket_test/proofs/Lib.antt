@@ -6,7 +6,7 @@ pub mod Cover
 pub mod Rules
 pub mod Ignored
 -- A carried test: one threshold, the whole state, the beginning, demand 3, runs of draws.
-pub mod Following
+pub mod OneThreshold
 pub mod Invariant
 pub mod Beginning
 pub mod Demand

@@ -18,8 +18,8 @@ use Rattle.walk.specs.declared.Mark.{Mark}
 use Rattle.walk.specs.declared.Mark.the-variants.{Open, Above, AtMost}
 use Rattle.walk.specs.declared.Walked.{Walked}
 use Rattle.walk.proofs.WalkFacts.{step-facts}
-use Rattle.walk.proofs.Checks.{padded-length, checked, narrow}
-use Rattle.walk.proofs.Seams.{judged-same, judged-on, judged-open}
+use Rattle.walk.proofs.SoundnessLaws.{padded-length, checked, narrow}
+use Rattle.walk.proofs.RecordLaws.{judged-same, judged-on, judged-open}
 use Rattle.bucket_test.specs.Tests.{unless, firstRefusal}
 use Rattle.bucket_test.specs.Plan.{thresholdAt, spendingOf, planRefusal, Accepted}
 use Rattle.bucket_test.specs.Words.{partAt, wordsFit, Stands}

@@ -9,7 +9,7 @@ use Rattle.walk.specs.Units.{million, allowanceLimit, horizonLimit}
 use Rattle.walk.specs.Spending.{IsSpending}
 use Rattle.walk.proofs.SpendingLaws.{spending-is}
 use Rattle.bucket_test.specs.Tests.{unless, firstRefusal}
-use Rattle.bucket_test.specs.Plan.{countLimit, bucketLimit, thresholdLimit, delayLimit, thresholdAt, allowanceAt, leftAt, rightAt, spendingOf, rule1, aboveBefore, rule2, rule3, rule4, permitted, bucketFits, rule5, rule6, planRefusal, Permitted, Covered, Accepted}
+use Rattle.bucket_test.specs.Plan.{countLimit, bucketLimit, thresholdLimit, delayLimit, thresholdAt, allowanceAt, leftAt, rightAt, spendingOf, rule1, aboveBefore, rule2, rule3, rule4, permitted, bucketFits, rule5, rule6, planRefusal, Permitted, Covered, Accepted, AcceptedTheorem}
 use Rattle.bucket_test.specs.declared.Plan.{Plan}
 use Rattle.bucket_test.proofs.PlaceLaws.{both, either, neither, le-reads, eq-reads, within-reads, all-say, any-say, none-says}
 use Rattle.bucket_test.proofs.Cover.{covers}
@@ -130,18 +130,20 @@ module _ (p : Plan) where
       above zero l = tt
       above (suc i) l = a .thresholds-rise i l
 
-  pub accepted : (planRefusal p ≡ 0) ↔ Accepted p
-  accepted = (λ e. gives (kept .0 e), λ a. kept .1 (keeps a))
+pub accepted : AcceptedTheorem
+accepted p = (λ e. gives p (kept p .0 e), λ a. kept p .1 (keeps p a))
 
-  -- an end of an accepted plan is at most a million
+-- ---- what an accepted plan gives
+
+module _ (p : Plan) where
+  -- an end is at most a million
   pub permitted-le : Accepted p → (e : ℕ) → Permitted p e → e ≤ million
   unfolding million
   permitted-le ok e (inl z) = omega arith
   permitted-le ok e (inr (inl z)) = omega arith
   permitted-le ok e (inr (inr z)) = omega (arith, z .2, ok .threshold-range (z .0) (z .1))
 
-  -- ---- what an accepted plan gives the walk of the threshold at place i
-
+  -- the walk of the threshold at place i
   module _ (ok : Accepted p) (i : ℕ) (l : i < p .count) where
     pub threshold-ok : thresholdAt p i ≤ million
     unfolding million

@@ -1,5 +1,5 @@
 -- P1 to P10 of 01, in one statement. Assumes nothing.
-use mathlib.Core.Path.{_≡_, refl}
+use mathlib.Core.Path.{refl}
 use Rattle.walk.specs.Numbers.{le?, searchUp, searchDown}
 use Rattle.walk.specs.Units.{M, million, massLimit, allowanceLimit, horizonLimit}
 use Rattle.walk.specs.Spending.{spending}
@@ -9,9 +9,9 @@ use Rattle.bucket_test.specs.Tests.{eq?, allTo, anyTo, largestTo, smalle
 use Rattle.bucket_test.specs.Plan.{spendingOf, rule1, aboveBefore, rule2, rule3, rule4, permitted, bucketFits, rule5, goesOnAt, rule6, planRefusal}
 use Rattle.bucket_test.specs.Turn.{startRecord}
 use Rattle.bucket_test.specs.Answers.{lowOf, highOf, answerBy, answerOf}
-use Rattle.bucket_test.specs.Trials.{planF, computed, printed}
+use Rattle.bucket_test.specs.Trials.{planF, computed, printed, TrialsTheorem}
 
-pub trials : (computed ≡ printed) × (planRefusal planF ≡ 0)
+pub trials : TrialsTheorem
 unfolding computed printed planF spendingOf spending walk start stepWalk absorbed upperBoundary firstLive massFrom massBelow searchUp searchDown
     lower below massUp reaching roundUp rounds million M massLimit allowanceLimit horizonLimit le? eq? allTo anyTo largestTo smallestTo
     rule1 aboveBefore rule2 rule3 rule4 permitted bucketFits rule5 goesOnAt rule6 planRefusal lowOf highOf answerBy answerOf startRecord

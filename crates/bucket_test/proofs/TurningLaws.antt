@@ -12,7 +12,7 @@ use Rattle.walk.specs.Walk.{Walk}
 use Rattle.walk.specs.Row.{Row}
 use Rattle.walk.specs.Record.{recordOf, padded}
 use Rattle.walk.specs.Facts.{Same}
-use Rattle.walk.proofs.Seams.{padded-word, record-same, word-same}
+use Rattle.walk.proofs.RecordLaws.{padded-word, record-same, word-same, fits-same}
 use Rattle.bucket_test.specs.Tests.{overTo, joinTo}
 use Rattle.bucket_test.specs.Words.{partAt, Stands}
 use Rattle.bucket_test.specs.Turn.{turnRecord, turnPart, MayTurn}
@@ -97,6 +97,7 @@ stands {w} {r} s size =
       over-is = e .2;
       under-is = e .3;
       size = size;
+      fits = fits-same s size;
       masses = λ j l. padded-word (r .masses) j ∙ sym (word-same s j);
       zeros = λ j l. padded-word (r .masses) j ∙ List·getD-eq-default (r .masses) 0 (omega (arith, s));
     }

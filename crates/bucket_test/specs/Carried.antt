@@ -1,7 +1,7 @@
 -- A test carried from a beginning over a list of draws (01, "Taking a draw"). Lists are latest first, as strings are: in `d ∷ ds` the
 -- draw d follows ds.
 use mathlib.Core.Path.{_≡_}
-use mathlib.Core.Bool.{Bool, true, false, _||_}
+use mathlib.Core.Bool.{Bool, false, _||_}
 use mathlib.Core.List.{List, [], _∷_}
 use Prim.Native.Nat.{ℕ, zero, suc, _≤_, _<_}
 use lib.ListN.{length, take}

@@ -1,7 +1,7 @@
 -- The plan and its rules (01, "The plan", and refusals 1 to 6 in "Who can cause which refusal").
 use mathlib.Core.Bool.{Bool, true, not, _&&_, _||_}
 use mathlib.Core.List.{[], _∷_}
-use mathlib.Core.Logic.{_⊎_}
+use mathlib.Core.Logic.{_⊎_, _↔_}
 use mathlib.Core.Path.{_≡_}
 use Prim.Native.Nat.{ℕ, zero, suc, _*_, _≤_, _<_}
 use lib.ListN.{getD}
@@ -100,10 +100,11 @@ module _ (p : Plan) where
   abbrev pub Holds : ℕ → ℕ → ℕ → Type 0
   Holds x y j = ((leftAt j * y < x * million) ⊎ (leftAt j ≡ 0)) × (x * million ≤ rightAt j * y)
 
-  -- every fraction x / y from 0 to 1 lies in some bucket
+  -- every fraction x / y from 0 to 1 lies in some bucket; since ends are fractions, so does every p between them
   unfoldable pub Covered : Type 0
   Covered = (x y : ℕ) → 0 < y → x ≤ y → (j : ℕ) × (j < p .buckets) × Holds x y j
 
+  -- (01: an accepted plan)
   pub record Accepted : Type 0 where
     pub count-range : (1 ≤ p .count) × (p .count ≤ countLimit)
     pub buckets-range : (2 ≤ p .buckets) × (p .buckets ≤ bucketLimit)
@@ -116,3 +117,9 @@ module _ (p : Plan) where
     pub not-whole : (j : ℕ) → j < p .buckets → ¬ ((leftAt j ≡ 0) × (rightAt j ≡ million))
     pub ends-permitted : (j : ℕ) → j < p .buckets → Permitted (leftAt j) × Permitted (rightAt j)
     pub covered : Covered
+
+abbrev pub CoveredTheorem : Type 0
+CoveredTheorem = (p : Plan) → (rule6 p ≡ true) ↔ Covered p
+
+abbrev pub AcceptedTheorem : Type 0
+AcceptedTheorem = (p : Plan) → (planRefusal p ≡ 0) ↔ Accepted p

@@ -1,5 +1,6 @@
 -- The trials of 01 that are proved, P1 to P10, and its two powers of 2: what is computed from the definitions beside what 01 prints, a line
 -- each.
+use mathlib.Core.Path.{_≡_}
 use mathlib.Core.List.{List, [], _∷_, map}
 use Prim.Native.Nat.{ℕ, _+_, _^_}
 use lib.IntN.{ℤ, pos, negsuc}
@@ -126,3 +127,7 @@ printed =
     -- P10
     ∷ (pos 6 ∷ [])
     ∷ []
+
+-- the joint statement, and that plan F is accepted
+abbrev pub TrialsTheorem : Type 0
+TrialsTheorem = (computed ≡ printed) × (planRefusal planF ≡ 0)

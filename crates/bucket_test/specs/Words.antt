@@ -26,5 +26,7 @@ pub record Stands (w : Walk) (r : Walked) (part : List ℕ) : Type 0 where
   pub over-is : r .over ≡ w .over
   pub under-is : r .under ≡ w .under
   pub size : length part ≡ wide
+  -- each live count has its word
+  pub fits : w .upper ≤ w .first + wide
   pub masses : (j : ℕ) → j < wide → getD part j 0 ≡ w .mass (w .first + j)
   pub zeros : (j : ℕ) → w .upper ≤ w .first + j → getD part j 0 ≡ 0

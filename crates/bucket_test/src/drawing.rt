@@ -142,6 +142,7 @@ pub fn report_on(p: Plan, s: State) -> Report
     }
 }
 
+// Whether a run of draws goes on after this answer: neither ended nor refused.
 pub fn is_open(a: Answer) -> bool
     ensures { λ r. ⌜ r ≡ goesOn a ⌝ }
 {

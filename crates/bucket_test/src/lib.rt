@@ -9,8 +9,8 @@ mod turning;
 use walk::Mark;
 use walk::Walked;
 
-// A plan (01, "The plan"): so many thresholds with an allowance each, so many buckets, the delay k and the horizon N. Places past a count
-// are ignored.
+// A plan (01, "The plan"): so many thresholds, in millionths, with an allowance each, in units, so many buckets, each from a left to a right
+// end, in millionths, the delay k and the horizon N. Places past a count are ignored.
 pub struct Plan {
     pub count: u32,
     pub buckets: u32,

@@ -15,10 +15,11 @@ use Rattle.bucket_test.specs.declared.Answer.{Answer}
 use Rattle.bucket_test.specs.declared.Answer.the-variants.{Open, Decided, Crossed, Wide, Spent, Refused}
 use Rattle.stored_plan.specs.Little.{putAt}
 
--- a number below 10^20 in decimal, in ASCII, with no zero in front
+-- how many digits a number below 10^20 has
 unfoldable pub places : ℕ → ℕ
 places n = searchUp 19 1 (λ k. lt? n (10 ^ k))
 
+-- .. and they, in ASCII, with no zero in front
 unfoldable pub decimal : ℕ → List ℕ
 decimal n = digits 10 (places n) n
 

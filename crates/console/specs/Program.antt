@@ -1,5 +1,5 @@
--- The program between what is read and what is printed (01, "The program"). Which bytes the system hands over no contract can say: the
--- claims are of some stored bytes and some text.
+-- The program between what is read and what is printed (01, "The program"). Which draws the system hands over no contract can say: the
+-- claims are of some text.
 use mathlib.Core.Path.{_≡_}
 use mathlib.Core.Bool.{Bool, true, false}
 use mathlib.Core.List.{List, _++_}
@@ -46,9 +46,3 @@ pub record Prints (printed : List ℕ → Printed) (n : ℕ) (words before after
   pub text : List ℕ
   pub line-is : Holds (printed text .line) n before after
   pub words-are : words ≡ printed text .words
-
--- .. and some stored bytes, 265 at most
-pub record Ran (n : ℕ) (words words′ before after : List ℕ) : Type 0 where
-  pub stored : List ℕ
-  pub few : length stored ≤ 265
-  pub prints : Prints (served stored words) n words′ before after

@@ -14,7 +14,7 @@ ghost use Rattle.io.specs.Counts.{Counts};
 ghost use Rattle.bucket_test.specs.Answers.{wordOf, bucketOf};
 ghost use Rattle.console.specs.Line.{decimal, refusedLine, lineOf, lineAfter, Puts, Holds};
 
-// Puts bytes at a place of the line and answers the next place. For this crate only.
+// Puts bytes at a place of the line and answers the next place.
 fn put(out: &mut [u8], at: usize, bytes: &[u8]) -> usize
     requires { ⌜ at + length (now bytes) ≤ length (now out) ⌝ }
     ensures { λ r. ⌜ Puts (now (bytes .entry)) at r (now (out .entry)) (now (out .exit)) ⌝ }
@@ -27,7 +27,7 @@ fn put(out: &mut [u8], at: usize, bytes: &[u8]) -> usize
     at + bytes.len()
 }
 
-// A space, and the number in decimal. For this crate only.
+// A space, and the number in decimal.
 fn put_number(out: &mut [u8], at: usize, number: u32) -> usize
     requires { ⌜ at + 11 ≤ length (now out) ⌝ }
     ensures { λ r. ⌜ (r ≤ at + 11) × Puts (32 ∷ decimal number) at r (now (out .entry)) (now (out .exit)) ⌝ }
@@ -38,7 +38,7 @@ fn put_number(out: &mut [u8], at: usize, number: u32) -> usize
     put(out, next, &text[..k])
 }
 
-// The word of an answer begins the line. For this crate only.
+// The word of an answer begins the line.
 fn put_word(out: &mut [u8], a: Answer) -> usize
     requires { ⌜ 7 ≤ length (now out) ⌝ }
     ensures { λ r. ⌜ (r ≤ 7) × Holds (wordOf a) r (now (out .entry)) (now (out .exit)) ⌝ }

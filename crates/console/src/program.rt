@@ -16,16 +16,16 @@ ghost use Rattle.walk.specs.Numbers.{lt?};
 ghost use Rattle.bucket_test.specs.Answers.{goesOn};
 ghost use Rattle.bucket_test.specs.Draw.{outcomeOf, drawnOn};
 ghost use Rattle.console.specs.Input.{drawsOf};
-ghost use Rattle.console.specs.Program.{Taken, Prints, Ran, played, served};
+ghost use Rattle.console.specs.Program.{Taken, Prints, played, served};
 
 // Where a test stands, and whether it takes more.
-struct Turn {
+struct Fed {
     more: bool,
     drawn: Drawn,
 }
 
 // The characters that one read gave. More is taken after an `open` answer, and not where there were none: the input has ended.
-fn take_chunk(p: Plan, d: Drawn, words: &mut [u64], chunk: &mut [u8]) -> Turn
+fn take_chunk(p: Plan, d: Drawn, words: &mut [u64], chunk: &mut [u8]) -> Fed
     ensures { λ r. ⌜
         (outcomeOf (r .drawn) (now (words .exit)) ≡ drawnOn p (outcomeOf d (now (words .entry))) (drawsOf (now (chunk .entry))))
         × (r .more ≡ lt? 0 (length (now (chunk .entry))) && goesOn (r .drawn .answer))
@@ -35,11 +35,11 @@ fn take_chunk(p: Plan, d: Drawn, words: &mut [u64], chunk: &mut [u8]) -> Turn
     let drawn = feed(p, d, words, chunk);
     let answer = drawn.answer;
     let more = some && is_open(answer);
-    Turn { more, drawn }
+    Fed { more, drawn }
 }
 
 // One read, and the characters that it gave.
-fn take_some(p: Plan, d: Drawn, input: i32, words: &mut [u64]) -> Turn
+fn take_some(p: Plan, d: Drawn, input: i32, words: &mut [u64]) -> Fed
     ensures { λ r. ⌜ Taken p (outcomeOf d (now (words .entry))) (r .drawn) (now (words .exit)) ⌝ }
 {
     let mut chunk = [0u8; 4096];
@@ -58,10 +58,10 @@ fn take_all(p: Plan, d: Drawn, input: i32, words: &mut [u64]) -> Drawn
     let mut more = is_open(first);
     let mut turns = u64::MAX;
     while turns > 0 && more {
-        let turn = take_some(p, drawn, input, words);
-        let next = turn.drawn;
+        let fed = take_some(p, drawn, input, words);
+        let next = fed.drawn;
         drawn = next;
-        more = turn.more;
+        more = fed.more;
         turns -= 1;
     }
     drawn
@@ -77,8 +77,8 @@ fn play(p: Plan, input: i32, words: &mut [u64], out: &mut [u8; 64]) -> usize
     last_line(p, last, out)
 }
 
-// A stored plan: its refusal, or its test, which is lent the first 769 words for each threshold.
-fn serve(stored: &[u8], input: i32, words: &mut [u64], out: &mut [u8; 64]) -> usize
+// The program between its reads and its write. A stored plan: its refusal, or its test, which is lent the first 769 words for each threshold.
+pub fn serve(stored: &[u8], input: i32, words: &mut [u64], out: &mut [u8; 64]) -> usize
     ensures { λ n. ⌜ Counts n (now (out .exit)) ⌝ }
     ensures { λ n. ⌜
         Prints (served (now (stored .entry)) (now (words .entry))) n (now (words .exit)) (now (out .entry)) (now (out .exit))
@@ -96,8 +96,8 @@ fn serve(stored: &[u8], input: i32, words: &mut [u64], out: &mut [u8; 64]) -> us
     play(p, input, &mut words[0..m], out)
 }
 
-// The bytes of a file at the start of buf; a file that is missing or cannot be read has none.
-fn load(path: &[u8], buf: &mut [u8]) -> usize
+// The bytes of a file at the start of buf, as many as it takes; a file that is missing or cannot be read has none.
+pub fn load(path: &[u8], buf: &mut [u8]) -> usize
     ensures { λ r. ⌜ Counts r (now (buf .exit)) ⌝ }
 {
     let fd = os::open_read(path);
@@ -107,14 +107,4 @@ fn load(path: &[u8], buf: &mut [u8]) -> usize
     let n = io::read_full(fd, buf);
     libc::close(fd);
     n
-}
-
-// The program but for the write: the plan's file is read into a buffer one byte longer than the longest plan, and the line is put into out.
-pub fn run(path: &[u8], input: i32, words: &mut [u64], out: &mut [u8; 64]) -> usize
-    ensures { λ n. ⌜ Counts n (now (out .exit)) ⌝ }
-    ensures { λ n. ⌜ Ran n (now (words .entry)) (now (words .exit)) (now (out .entry)) (now (out .exit)) ⌝ }
-{
-    let mut space = [0u8; 265];
-    let k = load(path, &mut space);
-    serve(&space[..k], input, words, out)
 }

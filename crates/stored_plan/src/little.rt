@@ -5,7 +5,7 @@ ghost use Prim.Native.Nat.{_+_, _≤_, _<_, _^_};
 ghost use lib.ListN.{length};
 ghost use Rattle.stored_plan.specs.Little.{toLE, field, putAt};
 
-// A byte as a number.
+// A byte, below 256: all that the sum asks of it.
 fn byte(b: u8) -> u64
     ensures { λ r. ⌜ (r ≡ b) × (r < 256) ⌝ }
 {

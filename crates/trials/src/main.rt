@@ -13,8 +13,10 @@ fn trial(plan: &[u8], input: &[u8], words: &mut [u64]) {
         io::write_all(libc::STDOUT_FILENO, b"no input\n");
         return;
     }
+    let mut stored = [0u8; 265];
     let mut line = [0u8; 64];
-    let n = console::program::run(plan, fd, words, &mut line);
+    let k = console::program::load(plan, &mut stored);
+    let n = console::program::serve(&stored[..k], fd, words, &mut line);
     io::write_all(libc::STDOUT_FILENO, &line[..n]);
     libc::close(fd);
 }

@@ -14,7 +14,7 @@ use Rattle.walk.specs.Mass.{reaching}
 use Rattle.walk.specs.Walk.{previous, newMass, massFrom, massBelow, start, absorbed, stepWalk, walk, firstAt, upperAt, NoWideBefore, noWideBefore?}
 use Rattle.walk.specs.Row.{total, rows, roundedBy}
 use Rattle.walk.specs.Strings.{Draws, weight, Side, Upper, Lower, MeetsFirst, verdict, mark, isOn, isOpen, lastStep, chance}
-use Rattle.walk.specs.Chance.{Meets, meets?, meeting, spent, Bounds, ChanceTheorem, AllowedTheorem}
+use Rattle.walk.specs.Chance.{Meets, meets?, meeting, spent, Bounds, AllowedTheorem, RoundedChanceTheorem, ChanceTheorem}
 use Rattle.walk.proofs.Tests.{and-true, only-scale, sum-cong, sum-le, sum-mul}
 use Rattle.walk.proofs.Rounding.{mass-ge}
 use Rattle.walk.proofs.RowSteps.{rows-sound, rows-total, rounded-few}
@@ -189,13 +189,6 @@ module _ (a : ℕ) (threshold : a ≤ million) (E : ℕ → ℕ) (spends : IsSpe
       let h = mark-on F U orders s side .0 e in
       meets-says s side .1 (h .0, record { meets = h .1; not-past = λ t k. none t (omega (arith, h .1 .to)) })))
 
-  -- in the finer form: one unit for each cell that was really rounded
-  pub chances-by-rounding : (side : Side) (n : ℕ) → NoWideBefore a E n → Bounds n (meeting a E side n) (spent side (walk a E n)) (roundedBy a E n)
-  chances-by-rounding side n none = record {
-    at-least = omega (arith, spent-ge side n, mul-le-mul-right M (meeting-le side n));
-    at-most = omega (arith, spent-le side n, mul-le-mul-right M (meeting-ge side n none));
-  }
-
 -- the theorems of this crate
 pub allowed-always : AllowedTheorem
 allowed-always a threshold E spends side n =
@@ -205,6 +198,12 @@ allowed-always a threshold E spends side n =
       spent-ge a threshold E spends side n,
       mul-le-mul-right (million ^ n) (spent-fits a threshold E spends side n),
     )
+
+pub chances-by-rounding : RoundedChanceTheorem
+chances-by-rounding a threshold E spends side n none = record {
+  at-least = omega (arith, spent-ge a threshold E spends side n, mul-le-mul-right M (meeting-le a threshold E spends side n));
+  at-most = omega (arith, spent-le a threshold E spends side n, mul-le-mul-right M (meeting-ge a threshold E spends side n none));
+}
 
 pub chances : ChanceTheorem
 chances a threshold E spends side n none =

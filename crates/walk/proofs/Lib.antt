@@ -19,8 +19,8 @@ pub mod Meeting
 pub mod Chances
 pub mod WalkFacts
 -- What the crate above cites of records and checks.
-pub mod Checks
-pub mod Seams
+pub mod SoundnessLaws
+pub mod RecordLaws
 -- What the loops of the code leave to do.
 mod Loops
 mod Parts

@@ -74,7 +74,6 @@ walk-facts a threshold E spends n =
     let off : (c : ℕ) → (c < walk a E n .first) ⊎ (walk a E n .upper ≤ c) → walk a E n .mass c ≡ 0 =
     rw (same-as-walk (walk a E n) (rows a E n) s) (at-off (rows a E n .first) (rows a E n .masses)) in
     record {
-      same = s;
       upper-is = upper-next a E n (omega (arith, spent-fits a threshold E spends Upper n, spends .rises n));
       lower-is = lower-next a E n (omega (arith, spent-fits a threshold E spends Lower n, spends .rises n));
       apart = far-enough (walk a E n .upper) (walk a E n .first) (omega (arith, s .first-same, s .upper-same, r .sound .live));

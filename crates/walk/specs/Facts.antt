@@ -10,7 +10,7 @@ use Rattle.walk.specs.Numbers.{le?, only, Smallest, Largest, sumTo, allU
 use Rattle.walk.specs.Units.{M, million, wide}
 use Rattle.walk.specs.Spending.{IsSpending}
 use Rattle.walk.specs.Walk.{Walk, lower, newMass, FitsUpper, FitsLower, stepWalk, walk, NoWideBefore}
-use Rattle.walk.specs.Row.{Row, upper, total, byCount, roundings, stepRow, rows, Sound, SoundAt}
+use Rattle.walk.specs.Row.{Row, upper, total, byCount, roundings, stepRow, Sound, SoundAt}
 use Rattle.walk.specs.Strings.{Side}
 use Rattle.walk.specs.Chance.{spent}
 
@@ -63,7 +63,6 @@ massOf w = sumTo (w .upper) (λ c. only (le? (w .first) c) (w .mass c)) + w .ove
 
 -- after step n
 pub record WalkFacts (a : ℕ) (E : ℕ → ℕ) (n : ℕ) : Type 0 where
-  pub same : Same (walk a E n) (rows a E n)
   -- both boundaries of the next step exist
   pub upper-is : Smallest (FitsUpper (suc n) (E (suc n)) (newMass a (walk a E n .mass)) (walk a E n .over)) 1 (1 + suc n) (walk a E (suc n) .upper)
   pub lower-is : Largest (FitsLower (suc n) (E (suc n)) (newMass a (walk a E n .mass)) (walk a E n .under)) 0 (suc (suc n)) (walk a E (suc n) .first)

@@ -17,7 +17,7 @@ ones [] = 0
 ones (true ∷ s) = suc (ones s)
 ones (false ∷ s) = ones s
 
--- the ones among the first t draws
+-- the ones among the first t draws: the count (01) after step t
 unfoldable pub count : Draws → ℕ → ℕ
 count s t = ones (drop (length s - t) s)
 
@@ -58,9 +58,9 @@ pub record MeetsFirst (first upper : ℕ → ℕ) (side : Side) (t : ℕ) (s : D
 -- ---- the same as a test that computes: the mark of a string. proofs/Meeting shows that between boundaries in order, `first` at most `upper`
 -- at every step, `mark` is Above t exactly when the string meets the upper boundary first at step t, and AtMost t exactly when so the lower.
 
--- how a count stands at step t: over, at or over the upper boundary; under, at or under the lower one
+-- the mark at step t of a count, by whether it is at or over the upper boundary, and whether at or under the lower one
 abbrev pub judged : ℕ → Bool → Bool → Mark
-judged t true under = Above t
+judged t true low = Above t
 judged t false true = AtMost t
 judged t false false = Open
 

@@ -7,7 +7,7 @@ use borrow.Author.Fill.{fill-more}
 use lib.ListN.{length, drop, replicate}
 use lib.Seq.{drop-length}
 use Rattle.walk.specs.Units.{wide}
-use Rattle.walk.proofs.Seams.{start-words}
+use Rattle.walk.proofs.RecordLaws.{start-words}
 use borrow.Author.Needs.{needs}
 use Rattle.bucket_test.proofs.starting.start_part.Statement.{statement}
 use Rattle.bucket_test.proofs.starting.start_part.Tie as tie

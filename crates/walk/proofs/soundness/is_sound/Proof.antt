@@ -15,7 +15,7 @@ use Rattle.walk.specs.Record.{firstAbove, rowOf}
 use Rattle.walk.specs.Soundness.{boundariesSound, isSound}
 use Rattle.walk.specs.declared.Walked.{Walked}
 use Rattle.walk.proofs.Tests.{Le?, le, gt, test}
-use Rattle.walk.proofs.Checks.{Between, boundaries-say}
+use Rattle.walk.proofs.SoundnessLaws.{Between, boundaries-say}
 use Rattle.walk.proofs.soundness.is_sound.Statement.{statement}
 use Rattle.walk.proofs.soundness.is_sound.Tie as tie
 

@@ -19,8 +19,8 @@ use Rattle.walk.proofs.Tests.{le?-complete}
 use Rattle.walk.proofs.RowSteps.{rows-fit}
 use Rattle.walk.proofs.Agreement.{same, in-order, not-wide}
 use Rattle.walk.proofs.Meeting.{last-settled, mark-meets, mark-open}
-use Rattle.walk.proofs.Checks.{padded-length, row-back, walk-passes}
-use Rattle.walk.proofs.Seams.{start-record, rows-zero, rows-suc, markOf, verdictOf, mark-cons, verdict-row, verdict-record, open-inside, narrow-next}
+use Rattle.walk.proofs.SoundnessLaws.{padded-length, row-back, walk-passes}
+use Rattle.walk.proofs.RecordLaws.{start-record, rows-zero, rows-suc, markOf, verdictOf, mark-cons, verdict-row, verdict-record, open-inside, narrow-next}
 use Rattle.bucket_test.specs.Words.{Stands}
 use Rattle.bucket_test.specs.Turn.{startRecord, marked, walkedOn, turnRecord, turnPart, recordSound}
 use Rattle.bucket_test.specs.Demand3.{Marks}

@@ -7,7 +7,7 @@ use Prim.Native.Nat.{ℕ, zero, suc, _+_, _-_, _≤_, _<_}
 use native.Mathlib.Nat.{eq-or-lt-of-le}
 use native.Mathlib.Omega.{arith}
 use lib.IntN.{pos, negsuc}
-use lib.ListN.{length, getD, replicate}
+use lib.ListN.{length, getD, replicate, length-append}
 use lib.Signed.{leZ}
 use Rattle.walk.specs.Numbers.{le?, lt?, eqZ?}
 use Rattle.walk.specs.Units.{M, million, wide}
@@ -61,6 +61,11 @@ module _ {w : Walk} {r : Row} (s : Same w r) where
   -- word j is the mass at count first + j
   pub word-same : (j : ℕ) → w .mass (w .first + j) ≡ getD (r .masses) j 0
   word-same j = rw (s .first-same) (s .mass-same (r .first + j) ∙ at-add (r .first) (r .masses) j)
+
+  -- where the row's words are 769, each live count has one
+  pub fits-same : length (padded (r .masses)) ≡ wide → w .upper ≤ w .first + wide
+  unfolding padded
+  fits-same size = omega (arith, s .first-same, s .upper-same, length-append (r .masses) (replicate (wide - length (r .masses)) 0))
 
   -- S ones stand to the record's boundaries as to the walk's
   pub judged-same : (t S : ℕ)
