@@ -1,4 +1,4 @@
--- What a turn of each loop of src/answering.rt leaves to do, and the answer rule, which only Trials, where it computes, unfolds besides. Assumes nothing.
+-- What a turn of each loop of src/answering.rt leaves to do, and the answer rule, which only Trials, where it computes, unfolds besides.
 use mathlib.Core.Path.{_≡_, refl}
 use mathlib.Core.Bool.{Bool, true, false}
 use Prim.Native.Nat.{ℕ, suc, _+_, _≤_, _<_, max, min}

@@ -1,4 +1,4 @@
--- A beginning answers `open`: no bucket contains the whole, nothing is wide, and the horizon is not 0. Assumes nothing.
+-- A beginning answers `open`: no bucket contains the whole, nothing is wide, and the horizon is not 0.
 use mathlib.Core.Path.{_≡_, refl, sym}
 use mathlib.Core.Bool.{Bool, false, _&&_}
 use Prim.Native.Nat.{ℕ, zero, suc, _<_}

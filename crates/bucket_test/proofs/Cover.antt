@@ -1,5 +1,4 @@
 -- Rule 6 as a test says what it says in words: one climbs from right end to right end, and just past a right end e lies (2e + 1) / 2,000,000.
--- Assumes nothing.
 use mathlib.Core.Path.{_≡_}
 use mathlib.Core.Bool.{true}
 use mathlib.Core.Logic.{_↔_, _⊎_, inl, inr, ⊎-elim}

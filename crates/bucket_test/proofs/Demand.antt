@@ -1,4 +1,4 @@
--- Demand 3: the invariant over every list of draws, and what it says. Assumes nothing.
+-- Demand 3: the invariant over every list of draws, and what it says.
 use mathlib.Core.Path.{_≡_, refl, sym, ap, _∙_}
 use mathlib.Core.Logic.{_⊎_, inl, inr}
 use mathlib.Core.Bool.{Bool, true, false, not, _||_, or-false}

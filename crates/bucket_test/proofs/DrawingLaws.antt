@@ -1,5 +1,4 @@
--- What a draw that nothing refuses may do, and each way out of a beginning, a draw and a run of draws, in plain variables. Assumes
--- nothing.
+-- What a draw that nothing refuses may do, and each way out of a beginning, a draw and a run of draws, in plain variables.
 use mathlib.Core.Path.{_≡_, refl, sym, ap, _∙_}
 use mathlib.Core.Bool.{true, false, _&&_}
 use mathlib.Core.List.{List, [], _∷_}

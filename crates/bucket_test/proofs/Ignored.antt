@@ -1,4 +1,4 @@
--- Places past a count are ignored (specs/Ignored). Assumes nothing.
+-- Places past a count are ignored (specs/Ignored).
 use mathlib.Core.Path.{_≡_, refl, sym, subst, ap}
 use mathlib.Core.Bool.{Bool, _&&_, _||_}
 use mathlib.Core.List.{List, [], _∷_}

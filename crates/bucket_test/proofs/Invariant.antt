@@ -1,5 +1,4 @@
--- State and words of a carried test are what the walks and the draws taken say; 8 and 11 never refuse them; one more draw. Assumes
--- nothing.
+-- State and words of a carried test are what the walks and the draws taken say; 8 and 11 never refuse them; one more draw.
 use mathlib.Core.Path.{_≡_, sym, ap, _∙_}
 use mathlib.Core.Bool.{Bool, true, false}
 use mathlib.Core.List.{List, [], _∷_}

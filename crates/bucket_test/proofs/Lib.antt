@@ -2,13 +2,13 @@
 pub mod PlaceLaws
 pub mod PlaceLists
 -- The plan's rules in words.
-pub mod Cover
+mod Cover
 pub mod Rules
 pub mod Ignored
 -- A carried test: one threshold, the whole state, the beginning, demand 3, runs of draws.
-pub mod OneThreshold
-pub mod Invariant
-pub mod Beginning
+mod OneThreshold
+mod Invariant
+mod Beginning
 pub mod Demand
 pub mod Runs
 mod Trials

@@ -1,4 +1,4 @@
--- A draw that nothing refuses is one step by 01's rules, whatever state was handed in (specs/OneStep). Assumes nothing.
+-- A draw that nothing refuses is one step by 01's rules, whatever state was handed in (specs/OneStep).
 use mathlib.Core.Path.{_≡_, refl, _∙_}
 use mathlib.Core.Bool.{Bool, true, false, not}
 use mathlib.Core.List.{List, [], _∷_}

@@ -1,5 +1,5 @@
 -- One threshold of a carried test: its record and its part after the draws taken are what its walk and the string say, and one turn
--- takes them one draw on. Cites laws of `walk` about boundaries and masses only. Assumes nothing.
+-- takes them one draw on. Cites laws of `walk` about boundaries and masses only.
 use mathlib.Core.Path.{_≡_, refl, ap, _∙_}
 use mathlib.Core.Bool.{Bool, true, false}
 use mathlib.Core.List.{List, _∷_}

@@ -1,4 +1,4 @@
--- Laws of lists made place by place (specs/Tests, specs/Words). Assumes nothing.
+-- Laws of lists made place by place (specs/Tests, specs/Words).
 use mathlib.Core.Path.{_≡_, refl, sym, ap}
 use mathlib.Core.Bool.{true}
 use mathlib.Core.Logic.{_↔_, _⊎_, inl, inr}

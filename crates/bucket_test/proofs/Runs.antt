@@ -1,5 +1,5 @@
 -- A run of draws is the same test as the list: what `drawnOn` hands back is what the draws handed to the test give, one by one; and how a
--- run is cut does not matter. Assumes nothing.
+-- run is cut does not matter.
 use mathlib.Core.Path.{_≡_, refl, sym, ap, _∙_}
 use mathlib.Core.Bool.{Bool, true, false}
 use mathlib.Core.List.{List, [], _∷_, _++_}

@@ -1,4 +1,4 @@
--- A loop that takes each record and each part in its turn, in plain variables. Assumes nothing.
+-- A loop that takes each record and each part in its turn, in plain variables.
 use mathlib.Core.Path.{_≡_, sym, ap, _∙_}
 use mathlib.Core.List.{List, _++_, append-assoc, append-nil}
 use Prim.Native.Nat.{ℕ, _+_, _*_, _-_, _≤_, _<_}

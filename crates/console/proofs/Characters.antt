@@ -1,4 +1,4 @@
--- A chunk that is turned into draws where it stands, one character after the other. Assumes nothing.
+-- A chunk that is turned into draws where it stands, one character after the other.
 use mathlib.Core.Path.{_≡_, refl, sym, ap, _∙_}
 use mathlib.Core.List.{List, _∷_, _++_, append-assoc, append-nil}
 use Prim.Native.Nat.{ℕ, suc, _+_, _-_, _≤_, _<_}

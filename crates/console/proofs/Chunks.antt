@@ -1,4 +1,4 @@
--- How the input is cut into reads does not matter: one text and then another is the two together. Assumes nothing.
+-- How the input is cut into reads does not matter: one text and then another is the two together.
 use mathlib.Core.Path.{_≡_, refl, _∙_}
 use mathlib.Core.Bool.{Bool, true, false, cond}
 use mathlib.Core.List.{List, [], _∷_, _++_}

@@ -1,4 +1,5 @@
-pub mod Lines
-pub mod Characters
-pub mod Chunks
-pub mod Programs
+-- Characters and text, the line, and the ways of the program.
+mod Characters
+mod Chunks
+mod Lines
+mod Programs

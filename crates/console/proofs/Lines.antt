@@ -1,4 +1,4 @@
--- Bytes put behind a text, and how many digits a number has. Assumes nothing.
+-- Bytes put behind a text, and how many digits a number has.
 use mathlib.Core.Path.{_≡_, refl, sym, ap, _∙_}
 use mathlib.Core.Bool.{Bool, true, false}
 use mathlib.Core.List.{List, _++_, append-assoc}

@@ -1,4 +1,4 @@
--- The ways of the program, each by its line and its words. Assumes nothing.
+-- The ways of the program, each by its line and its words.
 use mathlib.Core.Path.{_≡_, refl, sym, ap, subst}
 use mathlib.Core.List.{List, [], _++_}
 use Prim.Native.Nat.{ℕ, zero, suc, _*_, _≤_, _<_}

@@ -1,4 +1,4 @@
--- What goes out and comes in again is the same outcome: no two cases of an enum share a number. Assumes nothing.
+-- What goes out and comes in again is the same outcome: no two cases of an enum share a number.
 use mathlib.Core.Path.{_≡_, refl}
 use mathlib.Core.List.{List, [], _∷_, map}
 use Rattle.walk.specs.declared.Mark.{Mark}

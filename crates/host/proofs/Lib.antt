@@ -1,4 +1,4 @@
 -- Nothing is lost on the way.
 mod Kept
 -- An array made from another, element by element.
-mod EachPlace
+mod Copies

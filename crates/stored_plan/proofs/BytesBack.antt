@@ -1,4 +1,4 @@
--- Accepted bytes are the form of the plan that they hold. Assumes nothing.
+-- Accepted bytes are the form of the plan that they hold.
 use mathlib.Core.Path.{_≡_, sym, ap, _∙_}
 use mathlib.Core.List.{List, _++_}
 use Prim.Native.Nat.{ℕ, zero, suc, _+_, _*_, _≤_, _<_}

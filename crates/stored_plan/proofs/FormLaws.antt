@@ -1,4 +1,4 @@
--- Lengths of the parts of a stored form, and entries written one behind the other (specs/Form). Assumes nothing.
+-- Lengths of the parts of a stored form, and entries written one behind the other (specs/Form).
 use mathlib.Core.Path.{_≡_, ap, _∙_}
 use mathlib.Core.List.{List, _++_, append-assoc}
 use mathlib.Core.Logic.{⊎-elim}

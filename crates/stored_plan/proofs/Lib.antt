@@ -1,8 +1,8 @@
 -- Little-endian numbers, and bytes put into bytes.
-pub mod LittleLaws
+mod LittleLaws
 pub mod Putting
 -- The form of a plan, what reading and writing refuse, and the fields that reading takes.
-pub mod FormLaws
+mod FormLaws
 mod Refusals
 mod ReadingLaws
 -- The round trips.

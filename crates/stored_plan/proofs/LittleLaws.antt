@@ -1,4 +1,4 @@
--- Little-endian numbers: what is written is read, what is read is written, and fields of joined lists (specs/Little). Assumes nothing.
+-- Little-endian numbers: what is written is read, what is read is written, and fields of joined lists (specs/Little).
 use mathlib.Core.Path.{_≡_, refl, ap, ap₂, _∙_}
 use mathlib.Core.List.{List, [], _∷_, _++_, append-nil}
 use mathlib.Core.Logic.{⊎-elim}

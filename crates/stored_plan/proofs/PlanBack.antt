@@ -1,4 +1,4 @@
--- An accepted plan's form is read back: the plan with zeros past its counts. Assumes nothing.
+-- An accepted plan's form is read back: the plan with zeros past its counts.
 use mathlib.Core.Path.{_≡_, refl, _∙_}
 use mathlib.Core.List.{[], _++_, append-assoc, append-nil}
 use Prim.Native.Nat.{ℕ, _+_, _*_, _≤_, _<_}

@@ -1,4 +1,4 @@
--- Bytes put at an offset, one run behind the other (specs/Little, putAt). Assumes nothing.
+-- Bytes put at an offset, one run behind the other (specs/Little, putAt).
 use mathlib.Core.Path.{_≡_, sym, ap, ap₂, _∙_}
 use mathlib.Core.List.{List, [], _++_, append-assoc}
 use Prim.Native.Nat.{ℕ, _+_, _≤_}

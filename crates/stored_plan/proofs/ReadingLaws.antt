@@ -1,4 +1,4 @@
--- Tables that are filled up to a count (specs/Reading, filled). Assumes nothing.
+-- Tables that are filled up to a count (specs/Reading, filled).
 use mathlib.Core.Path.{_≡_, refl, _∙_}
 use mathlib.Core.List.{List}
 use Prim.Native.Nat.{ℕ, zero, suc, _+_, _≤_, _<_}

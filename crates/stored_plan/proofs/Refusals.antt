@@ -1,4 +1,4 @@
--- What is handed back, by the refusals of a reading and of a writing in their order (specs/Reading, specs/Writing). Assumes nothing.
+-- What is handed back, by the refusals of a reading and of a writing in their order (specs/Reading, specs/Writing).
 use mathlib.Core.Path.{_≡_, refl, sym, _∙_}
 use mathlib.Core.Bool.{Bool, true}
 use mathlib.Core.List.{List, [], _∷_, _++_}

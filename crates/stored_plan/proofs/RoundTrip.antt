@@ -1,4 +1,4 @@
--- The statements of specs/RoundTrip hold. Assumes nothing.
+-- The statements of specs/RoundTrip hold.
 use mathlib.Core.Path.{_≡_, refl, sym, _∙_}
 use mathlib.Core.List.{List}
 use Prim.Native.Nat.{ℕ, zero, suc}

@@ -1,4 +1,4 @@
--- Plan F is its 44 bytes, both ways (01, "The program"), and refusals come in their order. Assumes nothing.
+-- Plan F is its 44 bytes, both ways (01, "The program"), and refusals come in their order.
 use mathlib.Core.Path.{_≡_, refl}
 use mathlib.Core.List.{[], _++_, map}
 use lib.ListN.{length, replicate}

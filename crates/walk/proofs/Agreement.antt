@@ -1,5 +1,5 @@
 -- The two forms of the walk agree at every step: the row's boundaries are the smallest and the largest of rules 2 and 3, and what a step
--- makes of the row is what it makes of the masses by count. Assumes nothing.
+-- makes of the row is what it makes of the masses by count.
 use mathlib.Core.Path.{_≡_, refl, sym, ap, _∙_, fun-ext}
 use mathlib.Core.Logic.{_↔_, _⊎_, inl, inr}
 use mathlib.Core.Bool.{Bool, true, false}

@@ -1,4 +1,4 @@
--- Laws of lower boundaries, which are signed. Assumes nothing.
+-- Laws of lower boundaries, which are signed.
 use mathlib.Core.Path.{_≡_, refl, sym, ap}
 use mathlib.Core.Bool.{Bool, true, false, cond}
 use mathlib.Core.Logic.{_↔_}

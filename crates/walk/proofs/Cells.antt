@@ -1,5 +1,4 @@
--- The new masses of a row: how many, none lost, one unit more for each that was really rounded, none over the largest old one. Assumes
--- nothing.
+-- The new masses of a row: how many, none lost, one unit more for each that was really rounded, none over the largest old one.
 use mathlib.Core.Path.{_≡_, refl, ap}
 use mathlib.Core.Bool.{true}
 use mathlib.Core.List.{List, [], _∷_}

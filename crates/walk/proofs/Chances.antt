@@ -1,4 +1,4 @@
--- The chance theorem: no mass is below its chance, and the spent masses exceed theirs by no more than was rounded. Assumes nothing.
+-- The chance theorem: no mass is below its chance, and the spent masses exceed theirs by no more than was rounded.
 use mathlib.Core.Path.{_≡_, refl, ap, _∙_}
 use mathlib.Core.Bool.{Bool, true, false}
 use mathlib.Core.Logic.{_↔_, ⊎-elim}

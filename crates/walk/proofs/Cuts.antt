@@ -1,5 +1,4 @@
--- Rules 2 and 3 on a list of cells: what `kept` and `dropped` leave fits, no other choice is better, and they do not overlap. Assumes
--- nothing.
+-- Rules 2 and 3 on a list of cells: what `kept` and `dropped` leave fits, no other choice is better, and they do not overlap.
 use mathlib.Core.Bool.{Bool, true, false}
 use mathlib.Core.List.{List, [], _∷_}
 use Prim.Native.Nat.{ℕ, zero, suc, _+_, _≤_, _<_}

@@ -1,4 +1,4 @@
--- The exact weights by count, between any boundaries, and the sums over strings that they are. Assumes nothing.
+-- The exact weights by count, between any boundaries, and the sums over strings that they are.
 use mathlib.Core.Path.{_≡_, refl, sym, _∙_}
 use mathlib.Core.Bool.{Bool, true, false}
 use Prim.Native.Nat.{ℕ, zero, suc, _+_, _*_, _^_, _≤_, _<_}

@@ -1,8 +1,8 @@
 -- Numbers, lists and signed numbers.
 pub mod Tests
-pub mod Lists
+mod Lists
 pub mod Searches
-pub mod Boundaries
+mod Boundaries
 pub mod Signed
 -- One mass, the cells of a row, where they are cut, one step, and the walk's rows.
 mod Rounding
@@ -13,8 +13,8 @@ pub mod RowSteps
 pub mod Agreement
 pub mod SpendingLaws
 -- Strings, exact weights, first meetings, and the chance theorem.
-pub mod StringLaws
-pub mod Exact
+mod StringLaws
+mod Exact
 pub mod Meeting
 pub mod Chances
 pub mod WalkFacts

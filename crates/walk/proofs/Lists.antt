@@ -1,4 +1,4 @@
--- Sums of parts of a list. Assumes nothing.
+-- Sums of parts of a list.
 use mathlib.Core.Path.{_≡_, refl, ap, _∙_}
 use mathlib.Core.Bool.{true}
 use mathlib.Core.List.{List, [], _∷_}

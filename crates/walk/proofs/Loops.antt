@@ -1,4 +1,4 @@
--- What a turn of each loop of src/row.rt and src/soundness.rt leaves to do. Assumes nothing.
+-- What a turn of each loop of src/row.rt and src/soundness.rt leaves to do.
 use mathlib.Core.Path.{_≡_, sym}
 use mathlib.Core.Bool.{Bool, true, _&&_, and-assoc}
 use mathlib.Core.List.{List, _++_, append-nil}

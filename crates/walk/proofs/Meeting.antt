@@ -1,4 +1,4 @@
--- The mark of a string (specs/Strings) says which boundary the string meets first, and at which step. Assumes nothing.
+-- The mark of a string (specs/Strings) says which boundary the string meets first, and at which step.
 use mathlib.Core.Path.{_≡_, refl, sym, _∙_}
 use mathlib.Core.Logic.{_↔_, _⊎_, inl, inr}
 use mathlib.Core.Bool.{Bool, true, false}

@@ -1,4 +1,4 @@
--- A threshold's part of 769 words, as `trim` and `step` leave it. Assumes nothing.
+-- A threshold's part of 769 words, as `trim` and `step` leave it.
 use mathlib.Core.Path.{_≡_, sym, ap, _∙_}
 use mathlib.Core.List.{List, _++_}
 use Prim.Native.Nat.{ℕ, suc, _+_, _-_, _≤_, _<_}

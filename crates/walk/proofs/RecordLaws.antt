@@ -1,4 +1,4 @@
--- What the crate above cites in place of the definitions: the walk's rows and marks, one step more. Assumes nothing.
+-- What the crate above cites in place of the definitions: the walk's rows and marks, one step more.
 use mathlib.Core.Path.{_≡_, refl, sym, ap, _∙_}
 use mathlib.Core.Logic.{_⊎_, inl, inr}
 use mathlib.Core.Bool.{Bool, true, false}

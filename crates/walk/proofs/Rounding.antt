@@ -1,4 +1,4 @@
--- Rounding up, and one new mass. Assumes nothing.
+-- Rounding up, and one new mass.
 use mathlib.Core.Path.{_≡_, sym, ap, _∙_}
 use mathlib.Core.Bool.{Bool, true, false}
 use Prim.Native.Nat.{ℕ, _+_, _*_, _-_, _/_, _%_, _≤_}

@@ -1,4 +1,4 @@
--- What one step does to any sound row, and what therefore holds of the walk's rows at every step. Assumes nothing.
+-- What one step does to any sound row, and what therefore holds of the walk's rows at every step.
 use mathlib.Core.Path.{_≡_, refl}
 use mathlib.Core.Bool.{true}
 use mathlib.Core.List.{List}

@@ -1,4 +1,4 @@
--- The searches of specs/Numbers find the smallest and the largest, and there is one only. Assumes nothing.
+-- The searches of specs/Numbers find the smallest and the largest, and there is one only.
 use mathlib.Core.Path.{_≡_, refl, sym, _∙_}
 use mathlib.Core.Logic.{_⊎_, inl, inr}
 use mathlib.Core.Bool.{Bool, true, false}

@@ -1,4 +1,4 @@
--- Lower boundaries, which are signed: the number below a count, and what the code's casts and tests make of it. Assumes nothing.
+-- Lower boundaries, which are signed: the number below a count, and what the code's casts and tests make of it.
 use mathlib.Core.Path.{_≡_, refl, sym, ap, _∙_}
 use mathlib.Core.Bool.{Bool, true, false, not, cond, Bool·not-not}
 use Prim.Native.Nat.{ℕ, zero, suc, _+_, _-_, _^_, _≤_, _<_}

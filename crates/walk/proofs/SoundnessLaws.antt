@@ -1,4 +1,4 @@
--- What refusal 11 leaves: a row that may walk on; and it never refuses a row of the walk. Assumes nothing.
+-- What refusal 11 leaves: a row that may walk on; and it never refuses a row of the walk.
 use mathlib.Core.Path.{_≡_, refl, sym, ap, _∙_}
 use mathlib.Core.Bool.{true, false}
 use mathlib.Core.Logic.{_↔_}

@@ -1,4 +1,4 @@
--- The formula spending of a plan never falls and stays below one half. Assumes nothing.
+-- The formula spending of a plan never falls and stays below one half.
 use mathlib.Core.Path.{_≡_}
 use Prim.Native.Nat.{ℕ, suc, _+_, _*_, _≤_}
 use native.Mathlib.Nat.{le-div-iff-mul-le, div-mul-le-self, le-trans, mul-zero, zero-div, le-of-mul-le-mul-right}

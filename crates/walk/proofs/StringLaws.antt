@@ -1,4 +1,4 @@
--- Laws of the sums over strings of draws (specs/Strings). Assumes nothing.
+-- Laws of the sums over strings of draws (specs/Strings).
 use mathlib.Core.Path.{_≡_, refl, sym, ap, _∙_}
 use mathlib.Core.Bool.{true, false}
 use mathlib.Core.List.{[], _∷_}

@@ -1,4 +1,4 @@
--- Laws of the tests, choices and sums of specs/Numbers. Assumes nothing.
+-- Laws of the tests, choices and sums of specs/Numbers.
 use mathlib.Core.Path.{_≡_, refl, sym}
 use mathlib.Core.Bool.{Bool, true, false, not, _&&_}
 use Prim.Native.Nat.{ℕ, zero, suc, _*_, _≤_, _<_}

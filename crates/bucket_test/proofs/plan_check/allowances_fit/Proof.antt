@@ -1,4 +1,4 @@
--- `allowances_fit` meets its contract: the allowances before place i are in their range. Assumes nothing.
+-- The allowances before place i are in their range.
 use mathlib.Core.Path.{_≡_, refl, sym}
 use mathlib.Core.Bool.{Bool, true}
 use Prim.Native.Nat.{ℕ, _≤_, _-_}

@@ -1,4 +1,4 @@
--- `begins_at_zero` meets its contract: no bucket before place j begins at 0. Assumes nothing.
+-- No bucket before place j begins at 0.
 use mathlib.Core.Path.{_≡_, refl, sym}
 use mathlib.Core.Bool.{Bool, false}
 use Prim.Native.Nat.{ℕ, _≤_, _-_}

@@ -1,4 +1,4 @@
--- `bucket_fits` meets its contract, one part of rule 5 after the other. Assumes nothing.
+-- One part of rule 5 after the other.
 use mathlib.Core.Path.{_≡_, sym, _∙_}
 use mathlib.Core.Bool.{false, _&&_}
 use mathlib.Core.Logic.{⊎-elim}

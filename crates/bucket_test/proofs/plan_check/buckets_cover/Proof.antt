@@ -1,4 +1,4 @@
--- `buckets_cover` meets its contract: rule 6 is the two tests. Assumes nothing.
+-- Rule 6 is the two tests.
 use borrow.Author.Needs.{needs}
 use Rattle.bucket_test.specs.Plan.{rule6}
 use Rattle.bucket_test.proofs.plan_check.buckets_cover.Statement.{statement}

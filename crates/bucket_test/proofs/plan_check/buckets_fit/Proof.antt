@@ -1,4 +1,4 @@
--- `buckets_fit` meets its contract: the buckets before place j fit. Assumes nothing.
+-- The buckets before place j fit.
 use mathlib.Core.Path.{_≡_, refl, sym}
 use mathlib.Core.Bool.{true}
 use Prim.Native.Nat.{_≤_, _-_}

@@ -1,4 +1,4 @@
--- `counts_fit` meets its contract: rule 1 is the two ranges. Assumes nothing.
+-- Rule 1 is the two ranges.
 use borrow.Author.Needs.{needs}
 use Rattle.bucket_test.specs.Plan.{rule1}
 use Rattle.bucket_test.proofs.plan_check.counts_fit.Statement.{statement}

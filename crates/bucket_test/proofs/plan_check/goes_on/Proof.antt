@@ -1,4 +1,4 @@
--- `goes_on` meets its contract: below the top, no bucket before place i goes on at e. Assumes nothing.
+-- Below the top, no bucket before place i goes on at e.
 use mathlib.Core.Path.{_≡_, refl, sym}
 use mathlib.Core.Bool.{Bool, false, _&&_}
 use mathlib.Core.List.{List}

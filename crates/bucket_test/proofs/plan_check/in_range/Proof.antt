@@ -1,4 +1,4 @@
--- `in_range` meets its contract: the second test is made where the first holds. Assumes nothing.
+-- The second test is made where the first holds.
 use borrow.Author.Tests.{le-leb, lt-leb}
 use Rattle.walk.specs.Numbers.{le?}
 use Rattle.bucket_test.proofs.plan_check.in_range.Statement.{statement}

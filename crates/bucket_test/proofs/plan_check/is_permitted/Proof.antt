@@ -1,4 +1,4 @@
--- `is_permitted` meets its contract, one kind of permitted end after the other. Assumes nothing.
+-- One kind of permitted end after the other.
 use borrow.Author.Needs.{needs}
 use Rattle.walk.specs.Units.{million}
 use Rattle.bucket_test.specs.Plan.{permitted}

@@ -1,4 +1,4 @@
--- `is_threshold` meets its contract: no threshold before place i is e. Assumes nothing.
+-- No threshold before place i is e.
 use mathlib.Core.Path.{_≡_, refl, sym}
 use mathlib.Core.Bool.{Bool, false}
 use mathlib.Core.List.{List}

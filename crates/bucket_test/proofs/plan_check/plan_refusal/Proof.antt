@@ -1,4 +1,4 @@
--- `plan_refusal` meets its contract: past each rule that is kept, the refusal is the first of those left to judge. Assumes nothing.
+-- Past each rule that is kept, the refusal is the first of those left to judge.
 use mathlib.Core.Path.{_≡_}
 use Prim.Native.Nat.{_≤_}
 use borrow.Author.Needs.{needs}

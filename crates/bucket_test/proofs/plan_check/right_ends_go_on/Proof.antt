@@ -1,4 +1,4 @@
--- `right_ends_go_on` meets its contract: the plan goes on at each right end before place j. Assumes nothing.
+-- The plan goes on at each right end before place j.
 use mathlib.Core.Path.{_≡_, refl, sym}
 use mathlib.Core.Bool.{Bool, true}
 use Prim.Native.Nat.{ℕ, _≤_, _-_}

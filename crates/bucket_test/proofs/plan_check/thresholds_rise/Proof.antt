@@ -1,5 +1,4 @@
--- `thresholds_rise` meets its contract: the thresholds before place i are in their range and rise, and `before` is the last of them.
--- Assumes nothing.
+-- The thresholds before place i are in their range and rise, and `before` is the last of them.
 use mathlib.Core.Path.{_≡_, refl, sym}
 use mathlib.Core.Bool.{Bool, true, false, _&&_}
 use Prim.Native.Nat.{ℕ, zero, suc, _≤_, _<_, _-_}

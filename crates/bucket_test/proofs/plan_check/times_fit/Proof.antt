@@ -1,4 +1,4 @@
--- `times_fit` meets its contract: rule 4 is the two ranges. Assumes nothing.
+-- Rule 4 is the two ranges.
 use borrow.Author.Needs.{needs}
 use Rattle.walk.specs.Units.{horizonLimit}
 use Rattle.bucket_test.specs.Plan.{rule4}

@@ -1,16 +1,16 @@
--- After i turns the first i records are written.
+-- After i turns the first i records are copied.
 use mathlib.Core.Path.{_≡_, refl, _∙_}
 use Prim.Native.Nat.{_-_, _≤_}
 use native.Mathlib.Omega.{arith}
 use lib.ListN.{replicate}
 use Rattle.host.specs.States.{recordIn}
-use Rattle.host.proofs.EachPlace.{written, write-one, write-all}
+use Rattle.host.proofs.Copies.{copied, copy-one, copy-all}
 use borrow.Author.Needs.{needs}
 use Rattle.host.proofs.states.records_in.Statement.{statement}
 use Rattle.host.proofs.states.records_in.Tie as tie
 
 abbrev Inv-loop : tie.InvT-loop
-Inv-loop rs records₀ i₀ records i = (i ≤ 10) × (records ≡ written recordIn i rs records₀)
+Inv-loop rs records₀ i₀ records i = (i ≤ 10) × (records ≡ copied recordIn i rs records₀)
 
 abbrev μ-loop : tie.MeasureT-loop
 μ-loop rs records₀ i₀ records i = 10 - i
@@ -49,14 +49,14 @@ loop-again : tie.Need-loop-again Inv-loop μ-loop
 loop-again c =
     let l = c .before .before .before .loop in
     let given = c .before .before .before .before .before .before .args .t1 in
-    (omega arith, rw (l .inv .1, c .record-in2 .ensures) (write-one recordIn (l .i) given _ _ (search needs) (omega arith)))
+    (omega arith, rw (l .inv .1, c .record-in2 .ensures) (copy-one recordIn (l .i) given _ _ (search needs) (omega arith)))
 
 returns : tie.Need-returns Inv-loop μ-loop
 returns c =
     let l = c .before .loop in
     let given = c .before .before .before .before .args .t1 in
     let last : l .i ≡ 10 = omega arith in
-    l .inv .1 ∙ rw last (write-all recordIn 10 given (replicate 10 (c .before .before .record-in .result)) (search needs) refl)
+    l .inv .1 ∙ rw last (copy-all recordIn 10 given (replicate 10 (c .before .before .record-in .result)) (search needs) refl)
 
 pub records-in-spec : {M : Type 1} → statement M
 records-in-spec =

@@ -1,4 +1,4 @@
--- `read_le` meets its contract: v is the number of the i highest bytes. Assumes nothing.
+-- V is the number of the i highest bytes.
 use mathlib.Core.Path.{_≡_, sym}
 use Prim.Native.Nat.{suc, _+_, _-_, _^_, _≤_, _<_}
 use native.Mathlib.Numerals.{add-one}

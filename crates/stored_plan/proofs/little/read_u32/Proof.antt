@@ -1,4 +1,4 @@
--- `read_u32` meets its contract: at most 4 bytes fit. Assumes nothing.
+-- At most 4 bytes fit.
 use native.Mathlib.Omega.{arith}
 use borrow.Author.Needs.{needs}
 use Rattle.stored_plan.proofs.LittleLaws.{pow-le}

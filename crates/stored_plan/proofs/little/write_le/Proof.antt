@@ -1,4 +1,4 @@
--- `write_le` meets its contract: what is left to store at i, after what was stored, is the whole. Assumes nothing.
+-- What is left to store at i, after what was stored, is the whole.
 use mathlib.Core.Path.{_≡_, refl, _∙_}
 use Prim.Native.Nat.{suc, _+_, _-_, _≤_}
 use native.Mathlib.Omega.{arith}

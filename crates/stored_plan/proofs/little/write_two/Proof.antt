@@ -1,4 +1,4 @@
--- `write_two` meets its contract: one run behind the other. Assumes nothing.
+-- One run behind the other.
 use native.Mathlib.Omega.{arith}
 use borrow.Author.Needs.{needs}
 use Rattle.stored_plan.specs.Little.{toLE}

@@ -1,4 +1,4 @@
--- `counts_fit` meets its contract: rule 1 reads the two counts. Assumes nothing.
+-- Rule 1 reads the two counts.
 use borrow.Author.Needs.{needs}
 use Rattle.walk.specs.Numbers.{le?}
 use Rattle.walk.proofs.Tests.{le?-complete}

@@ -1,4 +1,4 @@
--- `fields_in` meets its contract: the table is filled up to place i. Assumes nothing.
+-- The table is filled up to place i.
 use mathlib.Core.Path.{_≡_, refl}
 use Prim.Native.Nat.{_-_, _≤_}
 use native.Mathlib.Omega.{arith}

@@ -1,4 +1,4 @@
--- `form_refusal` meets its contract: past each test that passed, the refusal is the first of those left to judge. Assumes nothing.
+-- Past each test that passed, the refusal is the first of those left to judge.
 use mathlib.Core.Path.{sym, _∙_}
 use borrow.Author.Needs.{needs}
 use Rattle.bucket_test.proofs.PlaceLaws.{passed, failed}

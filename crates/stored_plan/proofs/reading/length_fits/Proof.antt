@@ -1,4 +1,4 @@
--- `length_fits` meets its contract: the test of the definition. Assumes nothing.
+-- The test of the definition.
 use borrow.Author.Needs.{needs}
 use Rattle.bucket_test.specs.Tests.{eq?}
 use Rattle.stored_plan.specs.Form.{bucketOffset, formSize}

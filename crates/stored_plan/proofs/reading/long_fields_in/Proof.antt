@@ -1,4 +1,4 @@
--- `long_fields_in` meets its contract: as `fields_in`. Assumes nothing.
+-- As `fields_in`.
 use mathlib.Core.Path.{_≡_, refl}
 use Prim.Native.Nat.{_-_, _≤_}
 use native.Mathlib.Omega.{arith}

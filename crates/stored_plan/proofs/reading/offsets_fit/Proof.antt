@@ -1,4 +1,4 @@
--- `offsets_fit` meets its contract: the two tests of the definition, one after the other. Assumes nothing.
+-- The two tests of the definition, one after the other.
 use borrow.Author.Needs.{needs}
 use Rattle.bucket_test.specs.Tests.{eq?}
 use Rattle.bucket_test.proofs.PlaceLaws.{eq?-complete, eq?-fails}

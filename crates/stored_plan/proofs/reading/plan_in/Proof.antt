@@ -1,4 +1,4 @@
--- `plan_in` meets its contract: each number stands where the definition reads it. Assumes nothing.
+-- Each number stands where the definition reads it.
 use native.Mathlib.Omega.{arith}
 use borrow.Author.Needs.{needs}
 use Rattle.stored_plan.specs.Form.{bucketOffset, formSize}

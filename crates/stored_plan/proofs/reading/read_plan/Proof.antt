@@ -1,4 +1,4 @@
--- `read_plan` meets its contract: past each refusal that is not there, the refusal is the first of those left to judge. Assumes nothing.
+-- Past each refusal that is not there, the refusal is the first of those left to judge.
 use mathlib.Core.Path.{sym, ap, _∙_}
 use native.Mathlib.Omega.{arith}
 use borrow.Author.Needs.{needs}

@@ -1,4 +1,4 @@
--- `refused` meets its contract: zeros in every number. Assumes nothing.
+-- Zeros in every number.
 use mathlib.Core.Path.{refl}
 use Rattle.stored_plan.specs.Reading.{noPlan}
 use Rattle.stored_plan.proofs.reading.refused.Statement.{statement}

@@ -1,4 +1,4 @@
--- `write_header` meets its contract: its three pairs, one behind the other. Assumes nothing.
+-- Its three pairs, one behind the other.
 use mathlib.Core.List.{_++_, append-assoc}
 use Prim.Native.Nat.{_+_, _*_}
 use native.Mathlib.Omega.{arith}

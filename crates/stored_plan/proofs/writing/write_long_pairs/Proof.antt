@@ -1,4 +1,4 @@
--- `write_long_pairs` meets its contract: the entries before place i are put. Assumes nothing.
+-- The entries before place i are put.
 use mathlib.Core.Path.{_≡_, refl, sym}
 use Prim.Native.Nat.{_-_, _≤_}
 use native.Mathlib.Omega.{arith}

@@ -1,4 +1,4 @@
--- `write_plan` meets its contract: the refusals in their order, then the three parts of the form. Assumes nothing.
+-- The refusals in their order, then the three parts of the form.
 use mathlib.Core.Path.{sym, _∙_}
 use native.Mathlib.Omega.{arith}
 use borrow.Author.Needs.{needs}
