@@ -1,6 +1,6 @@
 //! Plans and inputs for the comparison, each from a seed and a place in the list.
 
-use crate::boundary::Slip;
+use crate::boundary::{Quick, Slip};
 use crate::plan::read;
 use crate::rng::Rng;
 use crate::sequential::{Mark, Test};
@@ -44,13 +44,13 @@ impl Draft {
     }
 }
 
+/// Up to a threshold, and above it.
+pub fn two_buckets(at: u32) -> Vec<(u32, u32)> {
+    vec![(0, at), (at, 1_000_000)]
+}
+
 pub fn plan_f() -> Draft {
-    Draft {
-        thresholds: vec![(50_000, 4_398_046_511)],
-        delay: 1000,
-        horizon: 200,
-        buckets: vec![(0, 50_000), (50_000, 1_000_000)],
-    }
+    Draft { thresholds: vec![(50_000, 4_398_046_511)], delay: 1000, horizon: 200, buckets: two_buckets(50_000) }
 }
 
 pub const STAR_THRESHOLDS: [u32; 9] = [500, 1000, 2000, 8000, 10_000, 12_000, 45_000, 50_000, 55_000];
@@ -83,6 +83,10 @@ pub enum PlanFile {
 }
 
 impl PlanFile {
+    pub fn of(draft: &Draft) -> PlanFile {
+        PlanFile::Stored(draft.store())
+    }
+
     pub fn bytes(&self) -> Option<&[u8]> {
         match self {
             PlanFile::Stored(bytes) => Some(bytes),
@@ -170,8 +174,7 @@ fn buckets(rng: &mut Rng, ends: &[u32], count: usize, overlap: bool) -> Vec<(u32
         }
     }
     if out.len() > count {
-        let at = ends[rng.range(1, last as u64 - 1) as usize];
-        out = vec![(0, at), (at, 1_000_000)];
+        out = two_buckets(ends[rng.range(1, last as u64 - 1) as usize]);
     }
     while out.len() < count {
         let left = rng.below(last as u64) as usize;
@@ -186,6 +189,11 @@ fn buckets(rng: &mut Rng, ends: &[u32], count: usize, overlap: bool) -> Vec<(u32
     }
     rng.shuffle(&mut out);
     out
+}
+
+pub fn any_horizon(rng: &mut Rng) -> u32 {
+    let most = if rng.chance(1, 3) { 300 } else { 50_000 };
+    rng.scale(1, most) as u32
 }
 
 pub fn any_plan(rng: &mut Rng, least_allowance: u64, horizon: u32) -> Draft {
@@ -230,39 +238,46 @@ fn near(rng: &mut Rng, draft: &Draft) -> f64 {
     .clamp(0.0, 1.0)
 }
 
-fn steer(rng: &mut Rng, draft: &Draft, length: usize, style: Style) -> Vec<bool> {
+/// The draw, or the other one where only that leads away from an ending answer.
+fn away(test: &Test, draw: bool) -> bool {
+    draw ^ (test.would(draw).ends() && !test.would(!draw).ends())
+}
+
+impl Style {
+    fn choose(self, rng: &mut Rng, test: &Test, held: &Quick) -> bool {
+        let ones = test.ones as i64;
+        match self {
+            Style::Chance(p) => rng.unit() < p,
+            Style::Cling(p) => away(test, rng.unit() < p),
+            Style::Hug { upper, release } if test.draws >= release => upper,
+            Style::Hug { upper: true, .. } => away(test, ones + 1 < held.upper),
+            Style::Hug { upper: false, .. } => away(test, ones <= held.lower),
+        }
+    }
+}
+
+/// Draws up to an ending answer, each chosen when the boundaries of its step are known.
+fn chosen(draft: &Draft, length: usize, mut choose: impl FnMut(&Test) -> bool) -> Vec<bool> {
     let plan = read(&draft.store()).expect("a plan that keeps the rules");
     let mut test = Test::begin(&plan, Slip::None);
     let mut draws = Vec::new();
-    let mut held = rng.below(plan.thresholds.len() as u64) as usize;
     while draws.len() < length && !test.answer().ends() {
         test.advance();
+        let draw = choose(&test);
+        draws.push(draw);
+        test.settle(draw);
+    }
+    draws
+}
+
+fn steer(rng: &mut Rng, draft: &Draft, length: usize, style: Style) -> Vec<bool> {
+    let mut held = rng.below(draft.thresholds.len() as u64) as usize;
+    chosen(draft, length, |test| {
         if test.marks[held] != Mark::Open {
             held = test.marks.iter().position(|m| *m == Mark::Open).unwrap_or(0);
         }
-        let chosen = match style {
-            Style::Chance(p) => rng.unit() < p,
-            Style::Cling(p) => {
-                let x = rng.unit() < p;
-                x ^ (test.would(x).ends() && !test.would(!x).ends())
-            }
-            Style::Hug { upper, release } => {
-                let bounds = &test.boundaries[held];
-                let ones = test.ones as i64;
-                let x = if test.draws >= release {
-                    upper
-                } else if upper {
-                    ones + 1 < bounds.upper
-                } else {
-                    ones <= bounds.lower
-                };
-                x ^ (test.draws < release && test.would(x).ends() && !test.would(!x).ends())
-            }
-        };
-        draws.push(chosen);
-        test.settle(chosen);
-    }
-    draws
+        style.choose(rng, test, &test.boundaries[held])
+    })
 }
 
 fn segments(rng: &mut Rng, length: usize) -> Vec<bool> {
@@ -330,7 +345,9 @@ pub const LONG_RUNS: u64 = 430;
 pub const WIDE_RUNS: u64 = 60;
 pub const CROSSED_RUNS: u64 = 300;
 pub const SHORT_RUNS: u64 = 4600;
-pub const RANDOM_RUNS: u64 = HORIZON_RUNS + LONGER_RUNS + LONG_RUNS + WIDE_RUNS + CROSSED_RUNS + SHORT_RUNS;
+/// The place of the first of the crossed ones.
+pub const CROSSED_FROM: u64 = HORIZON_RUNS + LONGER_RUNS + LONG_RUNS + WIDE_RUNS;
+pub const RANDOM_RUNS: u64 = CROSSED_FROM + CROSSED_RUNS + SHORT_RUNS;
 
 fn case(rng: &mut Rng, kind: &'static str, draft: &Draft, draws: &[bool]) -> Case {
     let input = render(rng, draws);
@@ -338,7 +355,7 @@ fn case(rng: &mut Rng, kind: &'static str, draft: &Draft, draws: &[bool]) -> Cas
         0 => Feed::Pieces,
         _ => Feed::Whole,
     };
-    Case { kind, plan: PlanFile::Stored(draft.store()), input, feed }
+    Case { kind, plan: PlanFile::of(draft), input, feed }
 }
 
 /// A run to a far horizon.
@@ -350,7 +367,7 @@ fn horizon_run(rng: &mut Rng, place: u64) -> Case {
         2 => {
             // One threshold near one half: wide after many steps.
             draft.thresholds = vec![(499_999, 1 << 36)];
-            draft.buckets = vec![(0, 499_999), (499_999, 1_000_000)];
+            draft.buckets = two_buckets(499_999);
             0.5
         }
         3 => {
@@ -425,56 +442,59 @@ fn wide_run(rng: &mut Rng) -> Case {
     case(rng, "wide", &draft, &draws)
 }
 
-/// Crossing: zeros until the inner threshold, with a large allowance, is at most; then ones
-/// until the far one, close above it with a small allowance, is above. Every bucket that
-/// holds p = 0 ends at the outer threshold below them, whose allowance of 1 never settles it.
-/// Or all of it mirrored.
-fn crossed_run(rng: &mut Rng) -> Case {
-    let upward = rng.chance(1, 2);
+/// An inner threshold with a large allowance, and a far one close above it with a small one. Every bucket that holds
+/// p = 0 ends at the outer threshold below them, whose allowance of 1 never settles it.
+fn crossing_draft(rng: &mut Rng) -> Draft {
     let outer = rng.range(1, 4_000);
     let inner = rng.range(40_000, 600_000);
     let far = inner + rng.range(1, inner / 3);
     let free = rng.scale(1 << 37, LARGEST);
     let firm = rng.scale(1 << 14, 1 << 30);
     let mut thresholds = vec![(outer as u32, 1), (inner as u32, free), (far as u32, firm)];
-    let mut middle = vec![(outer as u32, 1_000_000)];
+    let mut buckets = vec![(0, outer as u32), (outer as u32, 1_000_000)];
     if rng.chance(1, 2) {
         let more = rng.range(far + 1, 999_999) as u32;
         thresholds.push((more, rng.scale(1, 1 << 20)));
-        middle.push((outer as u32, more));
-        middle.push((inner as u32, more));
+        buckets.push((outer as u32, more));
+        buckets.push((inner as u32, more));
     }
-    let mut buckets = vec![(0, outer as u32)];
-    buckets.extend(middle);
     rng.shuffle(&mut buckets);
     let delay = rng.scale(1, 300) as u32;
-    let mut draft = Draft { thresholds, delay, horizon: rng.range(700, 50_000) as u32, buckets };
+    Draft { thresholds, delay, horizon: rng.range(700, 50_000) as u32, buckets }
+}
+
+/// The mirror image: the plan for 1 - p.
+fn mirrored(draft: &Draft) -> Draft {
+    let turn = |end: u32| 1_000_000 - end;
+    Draft {
+        thresholds: draft.thresholds.iter().rev().map(|t| (turn(t.0), t.1)).collect(),
+        buckets: draft.buckets.iter().map(|b| (turn(b.1), turn(b.0))).collect(),
+        ..*draft
+    }
+}
+
+/// Crossing: zeros until the inner threshold is at most; then ones until the far one is above. Or all of it mirrored.
+fn crossed_run(rng: &mut Rng) -> Case {
+    let upward = rng.chance(1, 2);
+    let mut draft = crossing_draft(rng);
+    let mut inner = 1; // its place in the plan
     if upward {
-        // The mirror image.
-        let turn = |e: u32| 1_000_000 - e;
-        draft.thresholds = draft.thresholds.iter().rev().map(|t| (turn(t.0), t.1)).collect();
-        draft.buckets = draft.buckets.iter().map(|b| (turn(b.1), turn(b.0))).collect();
+        draft = mirrored(&draft);
+        inner = draft.thresholds.len() - 2;
     }
-    let plan = read(&draft.store()).expect("a plan that keeps the rules");
-    let mut test = Test::begin(&plan, Slip::None);
     let noise = rng.pick(&[0, 0, 20]);
-    let inner_place = plan.thresholds.iter().position(|t| t.allowance == free as u128).unwrap_or(0);
-    let mut draws = Vec::new();
-    while !test.answer().ends() {
-        test.advance();
-        let settled = test.marks[inner_place] != Mark::Open;
-        let x = (settled ^ upward) ^ (noise > 0 && rng.chance(1, noise));
-        draws.push(x);
-        test.settle(x);
-    }
+    let draws = chosen(&draft, draft.horizon as usize, |test| {
+        let settled = test.marks[inner] != Mark::Open;
+        (settled ^ upward) ^ (noise > 0 && rng.chance(1, noise))
+    });
     case(rng, "crossed", &draft, &draws)
 }
 
 fn short_run(rng: &mut Rng, place: u64) -> Case {
     let least = rng.pick(&[1, 1, 1000]);
     let length = if place % 5 == 0 { rng.scale(1, 700) } else { rng.scale(1, 160) };
-    let horizon = if rng.chance(1, 3) { rng.scale(1, 300) } else { rng.scale(1, 50_000) };
-    let draft = any_plan(rng, least, horizon as u32);
+    let horizon = any_horizon(rng);
+    let draft = any_plan(rng, least, horizon);
     let draws = draws(rng, &draft, length as usize);
     let mut out = case(rng, "random", &draft, &draws);
     if rng.chance(1, 40) {
@@ -535,12 +555,13 @@ fn odd_number(rng: &mut Rng, size: usize, near: &[u64]) -> u64 {
     }
 }
 
-fn damage_header(rng: &mut Rng, bytes: &mut Vec<u8>, k: usize) {
+fn damage_header(rng: &mut Rng, bytes: &mut Vec<u8>) {
+    let k = bytes[0] as u64;
     let (from, size, near): (usize, usize, Vec<u64>) = match rng.below(6) {
-        0 => (0, 2, vec![0, 1, 10, 11, k as u64]),
+        0 => (0, 2, vec![0, 1, 10, 11, k]),
         1 => (2, 2, vec![1, 2, 16, 17]),
         2 => (4, 2, vec![16, 0, 20]),
-        3 => (6, 2, vec![16 + 12 * k as u64, 28, 16]),
+        3 => (6, 2, vec![16 + 12 * k, 28, 16]),
         4 => (8, 4, vec![1, 65_535, 1000, 0]),
         _ => (12, 4, vec![1, 50_000, 200, 0]),
     };
@@ -564,6 +585,11 @@ fn damage_allowance(rng: &mut Rng, draft: &mut Draft) {
     };
 }
 
+fn damage_delay_or_horizon(rng: &mut Rng, draft: &mut Draft) {
+    let number = if rng.chance(1, 2) { &mut draft.delay } else { &mut draft.horizon };
+    *number = odd_number(rng, 4, &[1, 65_535, 65_536, 50_000, 50_001]) as u32;
+}
+
 fn damage_bucket(rng: &mut Rng, draft: &mut Draft) {
     let ends = draft.ends();
     let i = rng.below(draft.buckets.len() as u64) as usize;
@@ -573,8 +599,11 @@ fn damage_bucket(rng: &mut Rng, draft: &mut Draft) {
         1 => *bucket = (0, 1_000_000),
         2 => *bucket = (bucket.0, bucket.0),
         3 => *bucket = (rng.pick(&ends), rng.pick(&ends)),
-        4 => bucket.0 = odd_number(rng, 4, &[0, 1_000_000, bucket.0 as u64, bucket.1 as u64]) as u32,
-        _ => bucket.1 = odd_number(rng, 4, &[0, 1_000_000, bucket.0 as u64, bucket.1 as u64]) as u32,
+        which => {
+            let odd = odd_number(rng, 4, &[0, 1_000_000, bucket.0 as u64, bucket.1 as u64]) as u32;
+            let end = if which == 4 { &mut bucket.0 } else { &mut bucket.1 };
+            *end = odd;
+        }
     }
 }
 
@@ -663,140 +692,149 @@ fn small_plan(rng: &mut Rng) -> Draft {
     draft
 }
 
-pub fn damaged_case(seed: u64, place: u64) -> Case {
-    let rng = &mut Rng::new(seed, 900_000_000 + place);
-    let mut draft = if rng.chance(1, 6) { plan_f() } else { small_plan(rng) };
-    let length = rng.scale(1, 40) as usize;
-    let p = near(rng, &draft);
-    let some: Vec<bool> = (0..length).map(|_| rng.unit() < p).collect();
-    let mut input = render(rng, &some);
-    let count = draft.thresholds.len();
-    let (kind, stored): (&'static str, PlanFile) = match place % 19 {
-        0 | 1 => {
-            let mut bytes = draft.store();
-            damage_header(rng, &mut bytes, count);
-            ("header", PlanFile::Stored(bytes))
+fn truncate(rng: &mut Rng, bytes: &mut Vec<u8>) {
+    bytes.truncate(rng.below(bytes.len() as u64) as usize);
+}
+
+fn extend(rng: &mut Rng, bytes: &mut Vec<u8>) {
+    let more = rng.pick(&[1, 1, 2, 4, 8, 12, 16, 220, 248, 249, 264, 300, 4096, 70_000]);
+    let zeros = rng.chance(1, 2);
+    bytes.extend((0..more).map(|_| if zeros { 0 } else { rng.next() as u8 }));
+}
+
+fn flip_bits(rng: &mut Rng, bytes: &mut Vec<u8>) {
+    for _ in 0..rng.range(1, 3) {
+        let at = rng.below(bytes.len() as u64) as usize;
+        bytes[at] ^= 1 << rng.below(8);
+    }
+}
+
+/// Several at once, to see which refusal comes first.
+fn damage_several(rng: &mut Rng, mut draft: Draft, input: &mut Vec<u8>) -> PlanFile {
+    for _ in 0..rng.range(2, 4) {
+        match rng.below(6) {
+            0 => damage_threshold(rng, &mut draft),
+            1 => damage_allowance(rng, &mut draft),
+            2 => draft.delay = odd_number(rng, 4, &[0, 65_536]) as u32,
+            3 => draft.horizon = odd_number(rng, 4, &[0, 50_001]) as u32,
+            4 => damage_bucket(rng, &mut draft),
+            _ => damage_cover(rng, &mut draft),
         }
-        2 => {
-            damage_counts(rng, &mut draft);
-            ("counts", PlanFile::Stored(draft.store()))
-        }
-        3 => {
-            damage_threshold(rng, &mut draft);
-            ("threshold", PlanFile::Stored(draft.store()))
-        }
-        4 => {
-            damage_allowance(rng, &mut draft);
-            ("allowance", PlanFile::Stored(draft.store()))
-        }
-        5 => {
-            let near = [1, 65_535, 65_536, 50_000, 50_001];
-            if rng.chance(1, 2) {
-                draft.delay = odd_number(rng, 4, &near) as u32;
-            } else {
-                draft.horizon = odd_number(rng, 4, &near) as u32;
-            }
-            ("delay or horizon", PlanFile::Stored(draft.store()))
-        }
-        6 => {
-            damage_bucket(rng, &mut draft);
-            ("bucket", PlanFile::Stored(draft.store()))
-        }
-        7 => {
-            damage_cover(rng, &mut draft);
-            ("cover", PlanFile::Stored(draft.store()))
-        }
-        8 => {
-            let mut bytes = draft.store();
-            bytes.truncate(rng.below(bytes.len() as u64) as usize);
-            ("truncated", PlanFile::Stored(bytes))
-        }
-        9 => {
-            let mut bytes = draft.store();
-            let more = rng.pick(&[1, 1, 2, 4, 8, 12, 16, 220, 248, 249, 264, 300, 4096, 70_000]);
-            let zeros = rng.chance(1, 2);
-            bytes.extend((0..more).map(|_| if zeros { 0 } else { rng.next() as u8 }));
-            ("extended", PlanFile::Stored(bytes))
-        }
-        10 | 11 => {
-            let mut bytes = draft.store();
-            for _ in 0..rng.range(1, 3) {
-                let at = rng.below(bytes.len() as u64) as usize;
-                bytes[at] ^= 1 << rng.below(8);
-            }
-            ("bit flips", PlanFile::Stored(bytes))
-        }
-        12 => {
-            damage_order(rng, &mut draft);
-            ("order", PlanFile::Stored(draft.store()))
-        }
-        13 => {
-            // Several at once, to see which refusal comes first.
-            for _ in 0..rng.range(2, 4) {
-                match rng.below(6) {
-                    0 => damage_threshold(rng, &mut draft),
-                    1 => damage_allowance(rng, &mut draft),
-                    2 => draft.delay = odd_number(rng, 4, &[0, 65_536]) as u32,
-                    3 => draft.horizon = odd_number(rng, 4, &[0, 50_001]) as u32,
-                    4 => damage_bucket(rng, &mut draft),
-                    _ => damage_cover(rng, &mut draft),
-                }
-            }
-            let mut bytes = draft.store();
-            if rng.chance(1, 4) {
-                damage_header(rng, &mut bytes, count);
-            }
-            if rng.chance(1, 6) {
-                bytes.pop();
-            }
-            if rng.chance(1, 4) {
-                damage_input(rng, &mut input);
-            }
-            ("several", PlanFile::Stored(bytes))
-        }
-        14 => {
-            damage_input(rng, &mut input);
-            ("foreign input", PlanFile::Stored(draft.store()))
-        }
-        15 => {
-            damage_input(rng, &mut input);
-            damage_input(rng, &mut input);
-            ("foreign input", PlanFile::Stored(plan_f().store()))
-        }
-        16 => {
-            // The input goes on, with anything, after an ending answer.
-            draft.horizon = rng.range(1, length as u64) as u32;
-            for _ in 0..rng.scale(1, 3000) {
-                input.push(if rng.chance(1, 3) { rng.next() as u8 } else { b'0' + rng.below(2) as u8 });
-            }
-            ("after the end", PlanFile::Stored(draft.store()))
-        }
-        17 => {
-            let plan = match rng.below(4) {
-                0 => PlanFile::Missing,
-                1 => PlanFile::Stored(Vec::new()),
-                2 => PlanFile::Folder,
-                _ => {
-                    let count = rng.scale(1, 400);
-                    PlanFile::Stored((0..count).map(|_| rng.next() as u8).collect())
-                }
-            };
-            if rng.chance(1, 4) {
-                damage_input(rng, &mut input);
-            }
-            ("no plan", plan)
-        }
+    }
+    let mut bytes = draft.store();
+    if rng.chance(1, 4) {
+        damage_header(rng, &mut bytes);
+    }
+    if rng.chance(1, 6) {
+        bytes.pop();
+    }
+    if rng.chance(1, 4) {
+        damage_input(rng, input);
+    }
+    PlanFile::Stored(bytes)
+}
+
+fn damage_input_of_plan_f(rng: &mut Rng, _: Draft, input: &mut Vec<u8>) -> PlanFile {
+    damage_input(rng, input);
+    damage_input(rng, input);
+    PlanFile::of(&plan_f())
+}
+
+/// The input goes on, with anything, after an ending answer.
+fn go_on_after_end(rng: &mut Rng, draft: Draft, input: &mut Vec<u8>) -> PlanFile {
+    let length = input.iter().filter(|byte| **byte != b'\n').count();
+    let horizon = rng.range(1, length as u64) as u32;
+    for _ in 0..rng.scale(1, 3000) {
+        input.push(if rng.chance(1, 3) { rng.next() as u8 } else { b'0' + rng.below(2) as u8 });
+    }
+    PlanFile::of(&Draft { horizon, ..draft })
+}
+
+fn no_plan(rng: &mut Rng, _: Draft, input: &mut Vec<u8>) -> PlanFile {
+    let plan = match rng.below(4) {
+        0 => PlanFile::Missing,
+        1 => PlanFile::Stored(Vec::new()),
+        2 => PlanFile::Folder,
         _ => {
-            // Newlines in plenty, or input of any bytes.
-            if rng.chance(1, 2) {
-                let at = rng.below(input.len() as u64 + 1) as usize;
-                let lines = vec![b'\n'; rng.scale(1, 9000) as usize];
-                input.splice(at..at, lines);
-            } else {
-                input = (0..rng.below(50)).map(|_| rng.next() as u8).collect();
-            }
-            ("newlines or any bytes", PlanFile::Stored(draft.store()))
+            let count = rng.scale(1, 400);
+            PlanFile::Stored((0..count).map(|_| rng.next() as u8).collect())
         }
     };
-    Case { kind, plan: stored, input, feed: Feed::Whole }
+    if rng.chance(1, 4) {
+        damage_input(rng, input);
+    }
+    plan
+}
+
+/// Newlines in plenty, or input of any bytes.
+fn newlines_or_any_bytes(rng: &mut Rng, input: &mut Vec<u8>) {
+    if rng.chance(1, 2) {
+        let at = rng.below(input.len() as u64 + 1) as usize;
+        let lines = vec![b'\n'; rng.scale(1, 9000) as usize];
+        input.splice(at..at, lines);
+    } else {
+        *input = (0..rng.below(50)).map(|_| rng.next() as u8).collect();
+    }
+}
+
+/// What is damaged, and how.
+#[derive(Clone, Copy)]
+enum Damage {
+    Draft(fn(&mut Rng, &mut Draft)),
+    Stored(fn(&mut Rng, &mut Vec<u8>)),
+    Input(fn(&mut Rng, &mut Vec<u8>)),
+    /// The plan, which is handed back, and the input.
+    Both(fn(&mut Rng, Draft, &mut Vec<u8>) -> PlanFile),
+}
+
+/// By turns: what stands here twice comes up twice as often.
+const DAMAGES: [(&str, Damage); 19] = [
+    ("header", Damage::Stored(damage_header)),
+    ("header", Damage::Stored(damage_header)),
+    ("counts", Damage::Draft(damage_counts)),
+    ("threshold", Damage::Draft(damage_threshold)),
+    ("allowance", Damage::Draft(damage_allowance)),
+    ("delay or horizon", Damage::Draft(damage_delay_or_horizon)),
+    ("bucket", Damage::Draft(damage_bucket)),
+    ("cover", Damage::Draft(damage_cover)),
+    ("truncated", Damage::Stored(truncate)),
+    ("extended", Damage::Stored(extend)),
+    ("bit flips", Damage::Stored(flip_bits)),
+    ("bit flips", Damage::Stored(flip_bits)),
+    ("order", Damage::Draft(damage_order)),
+    ("several", Damage::Both(damage_several)),
+    ("foreign input", Damage::Input(damage_input)),
+    ("foreign input", Damage::Both(damage_input_of_plan_f)),
+    ("after the end", Damage::Both(go_on_after_end)),
+    ("no plan", Damage::Both(no_plan)),
+    ("newlines or any bytes", Damage::Input(newlines_or_any_bytes)),
+];
+
+impl Damage {
+    /// The input is changed in place, the plan's file handed back.
+    fn apply(self, rng: &mut Rng, mut draft: Draft, input: &mut Vec<u8>) -> PlanFile {
+        match self {
+            Damage::Draft(damage) => damage(rng, &mut draft),
+            Damage::Stored(damage) => {
+                let mut bytes = draft.store();
+                damage(rng, &mut bytes);
+                return PlanFile::Stored(bytes);
+            }
+            Damage::Input(damage) => damage(rng, input),
+            Damage::Both(damage) => return damage(rng, draft, input),
+        }
+        PlanFile::of(&draft)
+    }
+}
+
+pub fn damaged_case(seed: u64, place: u64) -> Case {
+    let rng = &mut Rng::new(seed, 900_000_000 + place);
+    let draft = if rng.chance(1, 6) { plan_f() } else { small_plan(rng) };
+    let length = rng.scale(1, 40);
+    let p = near(rng, &draft);
+    let draws: Vec<bool> = (0..length).map(|_| rng.unit() < p).collect();
+    let mut input = render(rng, &draws);
+    let (kind, damage) = DAMAGES[place as usize % DAMAGES.len()];
+    let plan = damage.apply(rng, draft, &mut input);
+    Case { kind, plan, input, feed: Feed::Whole }
 }

@@ -1,14 +1,14 @@
 //! Runs a program on many plans and inputs and holds its line to the reference's.
 
 use crate::cases::{damaged_case, random_case, Case, Feed, PlanFile, DAMAGED_RUNS, RANDOM_RUNS};
-use crate::examples;
+use crate::examples::{self, Example};
 use crate::sequential::program;
-use std::collections::BTreeMap;
+use crate::tally::{conclude, join, named, sized, Counts};
 use std::fs;
 use std::io::{Read, Write};
 use std::os::unix::process::ExitStatusExt;
 use std::path::{Path, PathBuf};
-use std::process::{Child, Command, Stdio};
+use std::process::{Child, ChildStdin, Command, ExitStatus, Stdio};
 use std::sync::atomic::{AtomicBool, AtomicU64, Ordering};
 use std::sync::{Arc, Mutex};
 use std::time::{Duration, Instant};
@@ -24,6 +24,8 @@ pub struct Setting {
 /// Longest wait for one line.
 const PATIENCE: Duration = Duration::from_secs(60);
 const SHOWN: usize = 5;
+/// Mismatches after which a program counts as wrong everywhere, and need not be run to the end.
+const MANY: u64 = 200;
 /// Draws that make a run long, and how many such runs there must be.
 const LONG: u64 = 1000;
 const LONG_NEEDED: u64 = 300;
@@ -43,20 +45,26 @@ pub fn kind_of_line(line: &str) -> String {
     }
 }
 
-pub struct Mismatch {
+/// One run of the program, and the line that it must print.
+struct Run {
     place: u64,
+    group: &'static str,
     name: String,
     case: Case,
     expected: String,
+}
+
+pub struct Mismatch {
+    run: Run,
     got: String,
 }
 
 #[derive(Default)]
 pub struct Tally {
-    pub lines: BTreeMap<(&'static str, String), u64>,
-    pub kinds: BTreeMap<&'static str, u64>,
-    pub thresholds: BTreeMap<u64, u64>,
-    pub buckets: BTreeMap<u64, u64>,
+    pub lines: Counts<(&'static str, String)>,
+    pub kinds: Counts<&'static str>,
+    pub thresholds: Counts<u64>,
+    pub buckets: Counts<u64>,
     pub random: u64,
     pub damaged: u64,
     pub examples: u64,
@@ -69,18 +77,10 @@ pub struct Tally {
 
 impl Tally {
     fn join(&mut self, other: Tally) {
-        for (key, count) in other.lines {
-            *self.lines.entry(key).or_default() += count;
-        }
-        for (key, count) in other.kinds {
-            *self.kinds.entry(key).or_default() += count;
-        }
-        for (key, count) in other.thresholds {
-            *self.thresholds.entry(key).or_default() += count;
-        }
-        for (key, count) in other.buckets {
-            *self.buckets.entry(key).or_default() += count;
-        }
+        join(&mut self.lines, other.lines);
+        join(&mut self.kinds, other.kinds);
+        join(&mut self.thresholds, other.thresholds);
+        join(&mut self.buckets, other.buckets);
         self.random += other.random;
         self.damaged += other.damaged;
         self.examples += other.examples;
@@ -92,8 +92,9 @@ impl Tally {
     }
 
     /// Takes in one expected line.
-    fn note(&mut self, group: &'static str, case: &Case, line: &str) {
-        *self.lines.entry((group, kind_of_line(line))).or_default() += 1;
+    fn note(&mut self, run: &Run) {
+        let (case, line) = (&run.case, &run.expected);
+        *self.lines.entry((run.group, kind_of_line(line))).or_default() += 1;
         *self.kinds.entry(case.kind).or_default() += 1;
         let taken: u64 = match line.starts_with("refused") {
             true => 0,
@@ -101,7 +102,7 @@ impl Tally {
         };
         self.draws += taken;
         self.longest = self.longest.max(taken);
-        match group {
+        match run.group {
             "random" => {
                 self.random += 1;
                 self.long += (taken > LONG) as u64;
@@ -128,13 +129,9 @@ impl Tally {
             let (e, r, d) = (of("example"), of("random"), of("damaged"));
             println!("{kind:<12}{e:>10}{r:>10}{d:>10}{:>10}", e + r + d);
         }
-        let list = |map: &BTreeMap<u64, u64>| {
-            map.iter().map(|(size, count)| format!("{size}:{count}")).collect::<Vec<_>>().join(" ")
-        };
-        println!("random plans by thresholds: {}", list(&self.thresholds));
-        println!("random plans by buckets: {}", list(&self.buckets));
-        let kinds: Vec<String> = self.kinds.iter().map(|(kind, count)| format!("{kind} {count}")).collect();
-        println!("by kind: {}", kinds.join(", "));
+        println!("random plans by thresholds: {}", sized(&self.thresholds));
+        println!("random plans by buckets: {}", sized(&self.buckets));
+        println!("by kind: {}", named(&self.kinds));
     }
 
     /// What the set of runs failed to reach.
@@ -152,6 +149,19 @@ impl Tally {
         }
         out
     }
+
+    fn faults(&self, given_up: bool) -> Vec<String> {
+        let mut out = Vec::new();
+        if self.count_mismatches > 0 {
+            out.push(format!("{} mismatches", self.count_mismatches));
+        }
+        if given_up {
+            out.push("given up early".into());
+        } else {
+            out.extend(self.missing());
+        }
+        out
+    }
 }
 
 /// A child that the watch may end.
@@ -160,8 +170,42 @@ type Watched = Arc<Mutex<Option<(Child, Instant)>>>;
 struct Runner<'a> {
     program: &'a Path,
     args: &'a [String],
-    base: PathBuf,
+    base: &'a Path,
     slot: Watched,
+}
+
+fn put_plan(plan: &PlanFile, file: &Path) -> std::io::Result<()> {
+    match plan {
+        PlanFile::Stored(bytes) => fs::write(file, bytes),
+        PlanFile::Folder => fs::create_dir(file),
+        PlanFile::Missing => Ok(()),
+    }
+}
+
+/// Writes the input, and hands the pipe back where its end is to be held back. The program may be gone before all is
+/// written: no matter.
+fn feed(case: &Case, mut to: ChildStdin) -> Option<ChildStdin> {
+    if case.feed == Feed::Pieces {
+        for piece in case.input.chunks(case.input.len() / 3 + 1) {
+            if to.write_all(piece).and_then(|_| to.flush()).is_err() {
+                break;
+            }
+            std::thread::sleep(Duration::from_millis(2));
+        }
+    } else {
+        let _ = to.write_all(&case.input);
+    }
+    (case.feed == Feed::Held).then_some(to)
+}
+
+/// The output, or how the program ended badly.
+fn accepted(status: ExitStatus, since: Instant, out: Vec<u8>) -> Result<Vec<u8>, String> {
+    match status.signal() {
+        Some(_) if since.elapsed() >= PATIENCE => Err(format!("no end within {} s", PATIENCE.as_secs())),
+        Some(signal) => Err(format!("ended by signal {signal} after {:?}", String::from_utf8_lossy(&out))),
+        None if !status.success() => Err(format!("{status} after {:?}", String::from_utf8_lossy(&out))),
+        None => Ok(out),
+    }
 }
 
 impl Runner<'_> {
@@ -175,57 +219,29 @@ impl Runner<'_> {
     }
 
     fn output_in(&self, case: &Case, folder: &Path) -> Result<Vec<u8>, String> {
-        let file = folder.join("plan");
-        match &case.plan {
-            PlanFile::Stored(bytes) => fs::write(&file, bytes).map_err(|e| e.to_string())?,
-            PlanFile::Folder => fs::create_dir(&file).map_err(|e| e.to_string())?,
-            PlanFile::Missing => {}
-        }
-        let mut child = Command::new(self.program)
-            .args(self.args)
-            .current_dir(folder)
-            .stdin(Stdio::piped())
-            .stdout(Stdio::piped())
-            .stderr(Stdio::null())
-            .spawn()
-            .map_err(|e| format!("cannot start the program: {e}"))?;
-        let mut to = child.stdin.take().expect("piped");
+        put_plan(&case.plan, &folder.join("plan")).map_err(|e| e.to_string())?;
+        let mut child = self.start(folder).map_err(|e| format!("cannot start the program: {e}"))?;
+        let to = child.stdin.take().expect("piped");
         let mut from = child.stdout.take().expect("piped");
         *self.slot.lock().unwrap() = Some((child, Instant::now()));
-
-        // The program may be gone before all is written: no matter.
-        match case.feed {
-            Feed::Pieces => {
-                for piece in case.input.chunks(case.input.len() / 3 + 1) {
-                    if to.write_all(piece).and_then(|_| to.flush()).is_err() {
-                        break;
-                    }
-                    std::thread::sleep(Duration::from_millis(2));
-                }
-            }
-            _ => {
-                let _ = to.write_all(&case.input);
-            }
-        }
-        let held = match case.feed {
-            Feed::Held => Some(to),
-            _ => {
-                drop(to);
-                None
-            }
-        };
+        let held = feed(case, to);
         let mut out = Vec::new();
         let read = from.read_to_end(&mut out);
         drop(held);
         let (mut child, since) = self.slot.lock().unwrap().take().expect("the child");
         let status = child.wait().map_err(|e| e.to_string())?;
         read.map_err(|e| e.to_string())?;
-        match status.signal() {
-            Some(_) if since.elapsed() >= PATIENCE => Err(format!("no end within {} s", PATIENCE.as_secs())),
-            Some(signal) => Err(format!("ended by signal {signal} after {:?}", String::from_utf8_lossy(&out))),
-            None if !status.success() => Err(format!("{status} after {:?}", String::from_utf8_lossy(&out))),
-            None => Ok(out),
-        }
+        accepted(status, since, out)
+    }
+
+    fn start(&self, folder: &Path) -> std::io::Result<Child> {
+        Command::new(self.program)
+            .args(self.args)
+            .current_dir(folder)
+            .stdin(Stdio::piped())
+            .stdout(Stdio::piped())
+            .stderr(Stdio::null())
+            .spawn()
     }
 }
 
@@ -242,49 +258,58 @@ fn watch(slots: Vec<Watched>, done: Arc<AtomicBool>) {
     }
 }
 
-fn work(runner: &Runner, seed: u64, next: &AtomicU64, many: &AtomicU64) -> Tally {
+/// The run at a place in the list; the random ones first, as they take the longest.
+fn run_at(place: u64, seed: u64, examples: &[Example]) -> Option<Run> {
+    let damaged_from = RANDOM_RUNS + examples.len() as u64;
+    let (group, name, case, fixed) = if place < RANDOM_RUNS {
+        let case = random_case(seed, place);
+        ("random", format!("{} (random {place})", case.kind), case, None)
+    } else if place < damaged_from {
+        let e = &examples[(place - RANDOM_RUNS) as usize];
+        ("example", e.name.to_string(), e.case.clone(), Some(e.line.to_string()))
+    } else if place < damaged_from + DAMAGED_RUNS {
+        let which = place - damaged_from;
+        let case = damaged_case(seed, which);
+        ("damaged", format!("{} (damaged {which})", case.kind), case, None)
+    } else {
+        return None;
+    };
+    let expected = fixed.unwrap_or_else(|| program(case.plan.bytes(), &case.input));
+    Some(Run { place, group, name, case, expected })
+}
+
+/// What the workers share: the place of the next run, and the mismatches of all.
+#[derive(Default)]
+struct Shared {
+    next: AtomicU64,
+    mismatches: AtomicU64,
+}
+
+fn work(runner: &Runner, seed: u64, shared: &Shared) -> Tally {
     let examples = examples::all();
-    let first = examples.len() as u64;
     let mut tally = Tally::default();
-    loop {
-        let place = next.fetch_add(1, Ordering::Relaxed);
-        let (group, name, case, fixed): (&'static str, String, Case, Option<&str>) = if place < RANDOM_RUNS {
-            let case = random_case(seed, place);
-            ("random", format!("{} (random {place})", case.kind), case, None)
-        } else if place < RANDOM_RUNS + first {
-            let e = &examples[(place - RANDOM_RUNS) as usize];
-            ("example", e.name.to_string(), e.case.clone(), Some(e.line))
-        } else if place < RANDOM_RUNS + first + DAMAGED_RUNS {
-            let which = place - RANDOM_RUNS - first;
-            let case = damaged_case(seed, which);
-            ("damaged", format!("{} (damaged {which})", case.kind), case, None)
-        } else {
-            return tally;
-        };
-        let expected = match fixed {
-            Some(line) => line.to_string(),
-            None => program(case.plan.bytes(), &case.input),
-        };
-        tally.note(group, &case, &expected);
-        let got = match runner.output(&case, place) {
-            Ok(out) if out == expected.as_bytes() => continue,
+    while let Some(run) = run_at(shared.next.fetch_add(1, Ordering::Relaxed), seed, &examples) {
+        tally.note(&run);
+        let got = match runner.output(&run.case, run.place) {
+            Ok(out) if out == run.expected.as_bytes() => continue,
             Ok(out) => format!("{:?}", String::from_utf8_lossy(&out)),
             Err(trouble) => trouble,
         };
         tally.count_mismatches += 1;
         if tally.mismatches.len() < SHOWN {
-            tally.mismatches.push(Mismatch { place, name, case, expected, got });
+            tally.mismatches.push(Mismatch { run, got });
         }
-        // A program that is wrong everywhere need not be run to the end.
-        if many.fetch_add(1, Ordering::Relaxed) > 200 {
-            return tally;
+        if shared.mismatches.fetch_add(1, Ordering::Relaxed) > MANY {
+            break;
         }
     }
+    tally
 }
 
 fn show(mismatch: &Mismatch, keep: Option<&str>) {
-    println!("MISMATCH: {}", mismatch.name);
-    match &mismatch.case.plan {
+    let run = &mismatch.run;
+    println!("MISMATCH: {}", run.name);
+    match &run.case.plan {
         PlanFile::Stored(bytes) => {
             let hex: Vec<String> = bytes.iter().take(400).map(|b| format!("{b:02x}")).collect();
             let more = if bytes.len() > 400 { " ..." } else { "" };
@@ -293,16 +318,16 @@ fn show(mismatch: &Mismatch, keep: Option<&str>) {
         PlanFile::Missing => println!("  plan: missing"),
         PlanFile::Folder => println!("  plan: a folder"),
     }
-    let input = &mismatch.case.input;
+    let input = &run.case.input;
     let head: String = input.iter().take(3000).map(|b| std::ascii::escape_default(*b).to_string()).collect();
     let more = if input.len() > 3000 { " ..." } else { "" };
-    println!("  input ({} bytes, {:?}): {head}{more}", input.len(), mismatch.case.feed);
-    println!("  expected: {:?}", mismatch.expected);
+    println!("  input ({} bytes, {:?}): {head}{more}", input.len(), run.case.feed);
+    println!("  expected: {:?}", run.expected);
     println!("  program:  {}", mismatch.got);
     if let Some(folder) = keep {
-        let folder = Path::new(folder).join(mismatch.place.to_string());
+        let folder = Path::new(folder).join(run.place.to_string());
         let kept = fs::create_dir_all(&folder)
-            .and_then(|_| fs::write(folder.join("plan"), mismatch.case.plan.bytes().unwrap_or(&[])))
+            .and_then(|_| fs::write(folder.join("plan"), run.case.plan.bytes().unwrap_or(&[])))
             .and_then(|_| fs::write(folder.join("input"), input));
         match kept {
             Ok(()) => println!("  kept in {}", folder.display()),
@@ -311,28 +336,22 @@ fn show(mismatch: &Mismatch, keep: Option<&str>) {
     }
 }
 
-pub fn run(setting: &Setting) -> bool {
-    let began = Instant::now();
-    let program = match fs::canonicalize(&setting.program) {
-        Ok(path) => path,
-        Err(e) => {
-            println!("FAILED: {}: {e}", setting.program);
-            return false;
-        }
-    };
+/// The program's path, once the reference itself prints the examples' lines, and a temporary folder.
+fn prepare(setting: &Setting) -> Result<(PathBuf, PathBuf), String> {
+    let path = fs::canonicalize(&setting.program).map_err(|e| format!("{}: {e}", setting.program))?;
     for e in examples::all() {
-        if crate::sequential::program(e.case.plan.bytes(), &e.case.input) != e.line {
-            println!("FAILED: the reference itself misses the example '{}'", e.name);
-            return false;
+        if program(e.case.plan.bytes(), &e.case.input) != e.line {
+            return Err(format!("the reference itself misses the example '{}'", e.name));
         }
     }
     let base = std::env::temp_dir().join(format!("reference-{}-{}", std::process::id(), setting.seed));
-    if let Err(e) = fs::create_dir(&base) {
-        println!("FAILED: {}: {e}", base.display());
-        return false;
-    }
-    let next = AtomicU64::new(0);
-    let many = AtomicU64::new(0);
+    fs::create_dir(&base).map_err(|e| format!("{}: {e}", base.display()))?;
+    Ok((path, base))
+}
+
+/// All runs, over the threads, and whether they were given up.
+fn run_all(setting: &Setting, program: &Path, base: &Path) -> (Tally, bool) {
+    let shared = Shared::default();
     let done = Arc::new(AtomicBool::new(false));
     let slots: Vec<Watched> = (0..setting.threads).map(|_| Arc::new(Mutex::new(None))).collect();
     let watcher = {
@@ -341,43 +360,38 @@ pub fn run(setting: &Setting) -> bool {
     };
     let mut tally = Tally::default();
     std::thread::scope(|scope| {
-        let workers: Vec<_> = slots
-            .iter()
-            .map(|slot| {
-                let runner =
-                    Runner { program: &program, args: &setting.args, base: base.clone(), slot: slot.clone() };
-                let (next, many, seed) = (&next, &many, setting.seed);
-                scope.spawn(move || work(&runner, seed, next, many))
-            })
-            .collect();
+        let start = |slot: &Watched| {
+            let runner = Runner { program, args: &setting.args, base, slot: slot.clone() };
+            let shared = &shared;
+            scope.spawn(move || work(&runner, setting.seed, shared))
+        };
+        let workers: Vec<_> = slots.iter().map(start).collect();
         for worker in workers {
             tally.join(worker.join().expect("a worker"));
         }
     });
     done.store(true, Ordering::Relaxed);
     let _ = watcher.join();
+    (tally, shared.mismatches.load(Ordering::Relaxed) > MANY)
+}
+
+pub fn run(setting: &Setting) -> bool {
+    let began = Instant::now();
+    let (program, base) = match prepare(setting) {
+        Ok(prepared) => prepared,
+        Err(trouble) => {
+            println!("FAILED: {trouble}");
+            return false;
+        }
+    };
+    let (mut tally, given_up) = run_all(setting, &program, &base);
     let _ = fs::remove_dir_all(&base);
 
     println!("compare: seed {}, {:.1} s", setting.seed, began.elapsed().as_secs_f64());
     tally.print();
-    tally.mismatches.sort_by_key(|m| m.place);
+    tally.mismatches.sort_by_key(|m| m.run.place);
     for mismatch in tally.mismatches.iter().take(SHOWN) {
         show(mismatch, setting.keep.as_deref());
     }
-    let mut faults = Vec::new();
-    if tally.count_mismatches > 0 {
-        faults.push(format!("{} mismatches", tally.count_mismatches));
-    }
-    if many.load(Ordering::Relaxed) <= 200 {
-        faults.extend(tally.missing());
-    } else {
-        faults.push("given up early".into());
-    }
-    for fault in &faults {
-        println!("FAILED: {fault}");
-    }
-    if faults.is_empty() {
-        println!("compare: all lines agree");
-    }
-    faults.is_empty()
+    conclude(&tally.faults(given_up), "compare: all lines agree")
 }

@@ -1,19 +1,12 @@
 //! The examples that fix what the program prints.
 
-use crate::cases::{plan_f, Case, Draft, Feed, PlanFile};
+use crate::cases::Feed::{Held, Pieces, Whole};
+use crate::cases::{plan_f, two_buckets, Case, Draft, Feed, PlanFile};
 
 pub struct Example {
     pub name: &'static str,
     pub case: Case,
     pub line: &'static str,
-}
-
-fn example(name: &'static str, plan: PlanFile, input: &[u8], feed: Feed, line: &'static str) -> Example {
-    Example { name, case: Case { kind: "example", plan, input: input.to_vec(), feed }, line }
-}
-
-fn stored(draft: &Draft) -> PlanFile {
-    PlanFile::Stored(draft.store())
 }
 
 /// Four thresholds: the inner two can settle either way, the outer two never.
@@ -40,61 +33,98 @@ pub fn largest_plan() -> Draft {
     }
 }
 
-pub fn all() -> Vec<Example> {
-    let f = stored(&plan_f());
-    let short = stored(&Draft { horizon: 172, ..plan_f() });
-    let too_much = stored(&Draft { thresholds: vec![(50_000, 2_199_023_255_552)], ..plan_f() });
-    let gap = stored(&Draft {
+/// An allowance of one half: one unit too many.
+pub fn half_allowance_plan() -> Draft {
+    Draft { thresholds: vec![(50_000, 2_199_023_255_552)], ..plan_f() }
+}
+
+/// No bucket holds p between the two thresholds.
+pub fn gap_plan() -> Draft {
+    Draft {
         thresholds: vec![(10_000, 4_398_046_511), (50_000, 4_398_046_511)],
         buckets: vec![(0, 10_000), (50_000, 1_000_000)],
         ..plan_f()
-    });
-    let crossing = stored(&crossing_plan());
-    let one_half = Draft {
-        thresholds: vec![(500_000, 1)],
-        delay: 1,
-        horizon: 50_000,
-        buckets: vec![(0, 500_000), (500_000, 1_000_000)],
+    }
+}
+
+/// A threshold of one half that goes wide: its boundaries spread the fastest.
+pub fn widening_plan(horizon: u32) -> Draft {
+    Draft { thresholds: vec![(500_000, 1)], delay: 1, horizon, buckets: two_buckets(500_000) }
+}
+
+fn f() -> PlanFile {
+    PlanFile::of(&plan_f())
+}
+
+fn f_to_172() -> PlanFile {
+    PlanFile::of(&Draft { horizon: 172, ..plan_f() })
+}
+
+fn a_byte_too_long() -> PlanFile {
+    PlanFile::Stored([largest_plan().store(), vec![0]].concat())
+}
+
+fn crossing() -> PlanFile {
+    PlanFile::of(&crossing_plan())
+}
+
+/// An input of LENGTH draws: some zeros, then the pattern over and over.
+const fn zeros_then<const LENGTH: usize>(zeros: usize, pattern: &[u8]) -> [u8; LENGTH] {
+    let mut out = [b'0'; LENGTH];
+    let mut i = zeros;
+    while i < LENGTH {
+        out[i] = pattern[(i - zeros) % pattern.len()];
+        i += 1;
+    }
+    out
+}
+
+/// One and zero by turns: the count keeps to the middle of a threshold of one half.
+const TURN_ABOUT: [u8; 800] = zeros_then(0, b"10");
+
+/// Its name, the plan, the input, how that is fed, and the line.
+type Row = (&'static str, fn() -> PlanFile, &'static [u8], Feed, &'static str);
+
+const ROWS: [Row; 32] = [
+    ("plan F, 11111", f, b"11111", Whole, "decided 2 5 5 50000 1000000\n"),
+    ("plan F, 11111 and a newline", f, b"11111\n", Whole, "decided 2 5 5 50000 1000000\n"),
+    ("plan F, newlines between", f, b"\n1\n\n1\n1\n1\n1", Whole, "decided 2 5 5 50000 1000000\n"),
+    ("plan F, 11111 in pieces", f, b"11111", Pieces, "decided 2 5 5 50000 1000000\n"),
+    ("plan F, 11111, input held open", f, b"11111", Held, "decided 2 5 5 50000 1000000\n"),
+    ("plan F, 1111", f, b"1111", Whole, "open 0 4 4 0 1000000\n"),
+    ("plan F, 11111 and more", f, b"11111x\0\r", Whole, "decided 2 5 5 50000 1000000\n"),
+    ("plan F, 172 zeros", f, &[b'0'; 172], Whole, "open 0 172 0 0 1000000\n"),
+    ("plan F, 173 zeros", f, &[b'0'; 173], Whole, "decided 1 173 0 0 50000\n"),
+    ("plan F, 200 zeros", f, &[b'0'; 200], Whole, "decided 1 173 0 0 50000\n"),
+    ("plan F to 172, 172 zeros", f_to_172, &[b'0'; 172], Whole, "spent 0 172 0 0 1000000\n"),
+    ("plan F to 172, input held open", f_to_172, &[b'0'; 172], Held, "spent 0 172 0 0 1000000\n"),
+    ("plan F, no draws", f, b"", Whole, "open 0 0 0 0 1000000\n"),
+    ("plan F, newlines only", f, b"\n\n\n", Whole, "open 0 0 0 0 1000000\n"),
+    ("plan F, draw 2", f, b"2", Whole, "refused 9\n"),
+    ("plan F, draw 2, input held open", f, b"112", Held, "refused 9\n"),
+    ("plan F, a carriage return", f, b"11\r\n111", Whole, "refused 9\n"),
+    ("empty plan", || PlanFile::Stored(vec![]), b"11111", Whole, "refused 7\n"),
+    ("missing plan", || PlanFile::Missing, b"11111", Whole, "refused 7\n"),
+    ("missing plan, input held open", || PlanFile::Missing, b"", Held, "refused 7\n"),
+    ("missing plan, draw 2", || PlanFile::Missing, b"2", Whole, "refused 7\n"),
+    ("unreadable plan", || PlanFile::Folder, b"11111", Whole, "refused 7\n"),
+    ("a plan of 264 bytes", || PlanFile::of(&largest_plan()), b"", Whole, "open 0 0 0 0 1000000\n"),
+    ("the same with a byte more", a_byte_too_long, b"", Whole, "refused 7\n"),
+    ("allowance of one half (P9)", || PlanFile::of(&half_allowance_plan()), b"11111", Whole, "refused 3\n"),
+    ("a gap between buckets (P10)", || PlanFile::of(&gap_plan()), b"11111", Whole, "refused 6\n"),
+    ("10,000 above, 50,000 open (P7)", crossing, b"11", Whole, "open 0 2 2 10000 1000000\n"),
+    ("10,000 at most, 50,000 open", crossing, &zeros_then::<97>(80, b"1"), Whole, "open 0 97 17 0 10000\n"),
+    ("10,000 at most, 50,000 above (P8)", crossing, &zeros_then::<120>(80, b"1"), Whole, "crossed 0 98 18 50000 10000\n"),
+    ("wide at step 768", || PlanFile::of(&widening_plan(50_000)), &TURN_ABOUT, Whole, "wide 0 768 384 0 1000000\n"),
+    ("wide before spent", || PlanFile::of(&widening_plan(768)), &TURN_ABOUT, Whole, "wide 0 768 384 0 1000000\n"),
+    ("spent before wide", || PlanFile::of(&widening_plan(767)), &TURN_ABOUT, Whole, "spent 0 767 384 0 1000000\n"),
+];
+
+pub fn all() -> Vec<Example> {
+    let example = |(name, plan, input, feed, line): Row| Example {
+        name,
+        case: Case { kind: "example", plan: plan(), input: input.to_vec(), feed },
+        line,
     };
-    let longest = largest_plan().store();
-    let too_long = [longest.clone(), vec![0]].concat();
-    let zeros = |count: usize| vec![b'0'; count];
-    let both = |zeros: usize, ones: usize| [vec![b'0'; zeros], vec![b'1'; ones]].concat();
-    let w = Feed::Whole;
-    vec![
-        example("plan F, 11111", f.clone(), b"11111", w, "decided 2 5 5 50000 1000000\n"),
-        example("plan F, 11111 and a newline", f.clone(), b"11111\n", w, "decided 2 5 5 50000 1000000\n"),
-        example("plan F, newlines between", f.clone(), b"\n1\n\n1\n1\n1\n1", w, "decided 2 5 5 50000 1000000\n"),
-        example("plan F, 11111 in pieces", f.clone(), b"11111", Feed::Pieces, "decided 2 5 5 50000 1000000\n"),
-        example("plan F, 11111, input held open", f.clone(), b"11111", Feed::Held, "decided 2 5 5 50000 1000000\n"),
-        example("plan F, 1111", f.clone(), b"1111", w, "open 0 4 4 0 1000000\n"),
-        example("plan F, 11111 and more", f.clone(), b"11111x\0\r", w, "decided 2 5 5 50000 1000000\n"),
-        example("plan F, 172 zeros", f.clone(), &zeros(172), w, "open 0 172 0 0 1000000\n"),
-        example("plan F, 173 zeros", f.clone(), &zeros(173), w, "decided 1 173 0 0 50000\n"),
-        example("plan F, 200 zeros", f.clone(), &zeros(200), w, "decided 1 173 0 0 50000\n"),
-        example("plan F to 172, 172 zeros", short.clone(), &zeros(172), w, "spent 0 172 0 0 1000000\n"),
-        example("plan F to 172, input held open", short, &zeros(172), Feed::Held, "spent 0 172 0 0 1000000\n"),
-        example("plan F, no draws", f.clone(), b"", w, "open 0 0 0 0 1000000\n"),
-        example("plan F, newlines only", f.clone(), b"\n\n\n", w, "open 0 0 0 0 1000000\n"),
-        example("plan F, draw 2", f.clone(), b"2", w, "refused 9\n"),
-        example("plan F, draw 2, input held open", f.clone(), b"112", Feed::Held, "refused 9\n"),
-        example("plan F, a carriage return", f.clone(), b"11\r\n111", w, "refused 9\n"),
-        example("empty plan", PlanFile::Stored(vec![]), b"11111", w, "refused 7\n"),
-        example("missing plan", PlanFile::Missing, b"11111", w, "refused 7\n"),
-        example("missing plan, input held open", PlanFile::Missing, b"", Feed::Held, "refused 7\n"),
-        example("missing plan, draw 2", PlanFile::Missing, b"2", w, "refused 7\n"),
-        example("unreadable plan", PlanFile::Folder, b"11111", w, "refused 7\n"),
-        example("a plan of 264 bytes", PlanFile::Stored(longest), b"", w, "open 0 0 0 0 1000000\n"),
-        example("the same with a byte more", PlanFile::Stored(too_long), b"", w, "refused 7\n"),
-        example("allowance of one half (P9)", too_much, b"11111", w, "refused 3\n"),
-        example("a gap between buckets (P10)", gap, b"11111", w, "refused 6\n"),
-        example("10,000 above, 50,000 open (P7)", crossing.clone(), b"11", w, "open 0 2 2 10000 1000000\n"),
-        example("10,000 at most, 50,000 open", crossing.clone(), &both(80, 17), w, "open 0 97 17 0 10000\n"),
-        example("10,000 at most, 50,000 above (P8)", crossing, &both(80, 40), w, "crossed 0 98 18 50000 10000\n"),
-        example("wide at step 768", stored(&one_half), &b"10".repeat(400), w, "wide 0 768 384 0 1000000\n"),
-        example("wide before spent", stored(&Draft { horizon: 768, ..one_half.clone() }), &b"10".repeat(400), w,
-            "wide 0 768 384 0 1000000\n"),
-        example("spent before wide", stored(&Draft { horizon: 767, ..one_half }), &b"10".repeat(400), w,
-            "spent 0 767 384 0 1000000\n"),
-    ]
+    ROWS.into_iter().map(example).collect()
 }

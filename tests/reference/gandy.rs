@@ -6,6 +6,7 @@ use crate::boundary::{spending, Quick, Slip};
 use crate::cases::{STAR_ALLOWANCE, STAR_BUCKETS, STAR_THRESHOLDS};
 use crate::plan::{MILLION, WHOLE};
 use crate::rng::Rng;
+use crate::weights::Weights;
 use std::collections::BTreeMap;
 use std::time::Instant;
 
@@ -20,19 +21,14 @@ enum Limit {
     RoundedDown,
 }
 
-/// Equation (A.1) with nothing rounded: chances are whole numbers over `below`^n.
+/// Equation (A.1) with nothing rounded.
 struct Exact {
-    at: u64,
-    below: u64,
     allowance: u64,
     limit: Limit,
     step: u64,
     upper: i64,
     lower: i64,
-    chance: BTreeMap<i64, Big>,
-    met_upper: Big,
-    met_lower: Big,
-    whole: Big,
+    weights: Weights,
 }
 
 fn common(a: u64, b: u64) -> u64 {
@@ -43,64 +39,51 @@ fn common(a: u64, b: u64) -> u64 {
     }
 }
 
+/// Weights are summed from one far end inwards, onto those that met that side's boundary before, while the sum stays
+/// within the limit: the first count that goes past it.
+fn first_past<'a>(
+    met: &Big,
+    inwards: impl Iterator<Item = (&'a i64, &'a Big)>,
+    within: impl Fn(&Big) -> bool,
+) -> i64 {
+    let mut sum = met.clone();
+    for (count, weight) in inwards {
+        sum.add(weight);
+        if !within(&sum) {
+            return *count;
+        }
+    }
+    unreachable!("an allowance is below one half, and the other side has met no more than it")
+}
+
 impl Exact {
     fn begin(at: u64, allowance: u64, limit: Limit) -> Exact {
+        // In lowest terms the weights stay smaller.
         let divisor = common(at, MILLION as u64);
-        Exact {
-            at: at / divisor,
-            below: MILLION as u64 / divisor,
-            allowance,
-            limit,
-            step: 0,
-            upper: 1,
-            lower: -1,
-            chance: BTreeMap::from([(0, Big::from(1))]),
-            met_upper: Big::from(0),
-            met_lower: Big::from(0),
-            whole: Big::from(1),
+        let weights = Weights::begin(at / divisor, MILLION as u64 / divisor);
+        Exact { allowance, limit, step: 0, upper: 1, lower: -1, weights }
+    }
+
+    /// The limit of this step as a weight, with the factor that clears its fraction.
+    fn limit_weight(&self) -> (Big, u64) {
+        let n = self.step;
+        match self.limit {
+            Limit::Fraction => (self.weights.whole.times(self.allowance * n), n + DELAY),
+            Limit::RoundedDown => {
+                let spent = spending(self.allowance as u128, DELAY as u128, n as u128);
+                (self.weights.whole.times(spent as u64), 1)
+            }
         }
     }
 
     fn advance(&mut self) {
         self.step += 1;
-        let n = self.step;
-        let mut next: BTreeMap<i64, Big> = BTreeMap::new();
-        for (count, chance) in &self.chance {
-            next.entry(*count).or_default().add(&chance.times(self.below - self.at));
-            next.entry(count + 1).or_default().add(&chance.times(self.at));
-        }
-        self.whole = self.whole.times(self.below);
-        self.met_upper = self.met_upper.times(self.below);
-        self.met_lower = self.met_lower.times(self.below);
-        let (bound, factor) = match self.limit {
-            Limit::Fraction => (self.whole.times(self.allowance * n), n + DELAY),
-            Limit::RoundedDown => {
-                let spent = spending(self.allowance as u128, DELAY as u128, n as u128);
-                (self.whole.times(spent as u64), 1)
-            }
-        };
-        let within = |chance: &Big| chance.times(WHOLE as u64).times(factor).at_most(&bound);
-
-        // Chances are summed from the far ends inwards while the sum stays within the limit.
-        self.upper = n as i64 + 1;
-        for (count, chance) in next.iter().rev() {
-            let sum = self.met_upper.plus(chance);
-            if !within(&sum) {
-                self.upper = count + 1;
-                break;
-            }
-            self.met_upper = sum;
-        }
-        for (count, chance) in &next {
-            let sum = self.met_lower.plus(chance);
-            if !within(&sum) {
-                self.lower = count - 1;
-                break;
-            }
-            self.met_lower = sum;
-        }
-        next.retain(|count, _| self.lower < *count && *count < self.upper);
-        self.chance = next;
+        self.weights.advance();
+        let (limit, factor) = self.limit_weight();
+        let within = |weight: &Big| weight.times(WHOLE as u64).times(factor).at_most(&limit);
+        self.upper = first_past(&self.weights.above, self.weights.live.iter().rev(), within) + 1;
+        self.lower = first_past(&self.weights.below, self.weights.live.iter(), within) - 1;
+        self.weights.settle(self.upper, self.lower);
     }
 }
 
@@ -108,10 +91,45 @@ impl Exact {
 /// is the more cautious one, and the exact chance is within 769 units a step of the limit.
 fn from_rounding(exact: &Exact, met: &Big, cautious: bool) -> bool {
     let n = exact.step;
-    let units = met.times(WHOLE as u64).over(&exact.whole);
+    let units = met.times(WHOLE as u64).over(&exact.weights.whole);
     let limit = STAR_ALLOWANCE as f64 * n as f64 / (n + DELAY) as f64;
     println!("    exact chance {units:.1} units, limit {limit:.1}, left over {:.1}", limit - units);
     cautious && limit - units < (769 * n) as f64
+}
+
+/// One threshold's boundaries at every step: how many differ, and whether rounding accounts for it.
+fn published_boundaries_of(at: u32, steps: u64) -> (u64, bool) {
+    let mut rounded = Quick::begin(at as u128, STAR_ALLOWANCE as u128, DELAY as u128, Slip::None);
+    let mut fraction = Exact::begin(at as u64, STAR_ALLOWANCE, Limit::Fraction);
+    let mut down = Exact::begin(at as u64, STAR_ALLOWANCE, Limit::RoundedDown);
+    let mut good = true;
+    let (mut upper_same, mut lower_same) = (true, true);
+    let (mut by_fraction, mut by_down) = (0, 0);
+    for n in 1..=steps {
+        rounded.advance();
+        fraction.advance();
+        down.advance();
+        let here = (rounded.upper, rounded.lower);
+        let exact = (fraction.upper, fraction.lower);
+        by_down += ((down.upper, down.lower) != here) as u64;
+        if exact == here {
+            continue;
+        }
+        by_fraction += 1;
+        println!("  threshold {at}, step {n}: rounded masses (upper, lower) {here:?}, exact {exact:?}");
+        if here.0 != exact.0 && upper_same {
+            upper_same = false;
+            good &= from_rounding(&fraction, &fraction.weights.above, here.0 > exact.0);
+        }
+        if here.1 != exact.1 && lower_same {
+            lower_same = false;
+            good &= from_rounding(&fraction, &fraction.weights.below, here.1 < exact.1);
+        }
+    }
+    let exact = format!("{}, {}", fraction.upper, fraction.lower);
+    let masses = format!("{}, {}", rounded.upper, rounded.lower);
+    println!("{at:>10} {exact:>14} {masses:>14} {by_fraction:>20} {by_down:>20}");
+    (by_fraction, good)
 }
 
 fn published_boundaries(steps: u64) -> bool {
@@ -120,37 +138,10 @@ fn published_boundaries(steps: u64) -> bool {
     let mut good = true;
     let (mut compared, mut differences) = (0, 0);
     for at in STAR_THRESHOLDS {
-        let mut rounded = Quick::begin(at as u128, STAR_ALLOWANCE as u128, DELAY as u128, Slip::None);
-        let mut fraction = Exact::begin(at as u64, STAR_ALLOWANCE, Limit::Fraction);
-        let mut down = Exact::begin(at as u64, STAR_ALLOWANCE, Limit::RoundedDown);
-        let (mut upper_same, mut lower_same) = (true, true);
-        let (mut by_fraction, mut by_down) = (0, 0);
-        for n in 1..=steps {
-            rounded.advance();
-            fraction.advance();
-            down.advance();
-            let here = (rounded.upper, rounded.lower);
-            let exact = (fraction.upper, fraction.lower);
-            by_down += ((down.upper, down.lower) != here) as u64;
-            if exact == here {
-                continue;
-            }
-            by_fraction += 1;
-            println!("  threshold {at}, step {n}: rounded masses (upper, lower) {here:?}, exact {exact:?}");
-            if here.0 != exact.0 && upper_same {
-                upper_same = false;
-                good &= from_rounding(&fraction, &fraction.met_upper, here.0 > exact.0);
-            }
-            if here.1 != exact.1 && lower_same {
-                lower_same = false;
-                good &= from_rounding(&fraction, &fraction.met_lower, here.1 < exact.1);
-            }
-        }
+        let (differ, accounted) = published_boundaries_of(at, steps);
         compared += steps;
-        differences += by_fraction;
-        let exact = format!("{}, {}", fraction.upper, fraction.lower);
-        let masses = format!("{}, {}", rounded.upper, rounded.lower);
-        println!("{at:>10} {exact:>14} {masses:>14} {by_fraction:>20} {by_down:>20}");
+        differences += differ;
+        good &= accounted;
     }
     println!("boundaries differ at {differences} of {compared} steps");
     if !good {
@@ -173,9 +164,12 @@ const PART: f64 = 0.05;
 /// -1 at most, 0 open, 1 above, for each of the nine thresholds.
 type Marks = [i8; 9];
 
-fn mark(marks: &Marks, count: i64, bounds: &[(i64, i64)]) -> Marks {
+/// Upper and lower boundary of each of them at one step.
+type Boundaries = [(i64, i64); 9];
+
+fn mark(marks: &Marks, count: i64, boundaries: &Boundaries) -> Marks {
     let mut out = *marks;
-    for (mark, (upper, lower)) in out.iter_mut().zip(bounds) {
+    for (mark, (upper, lower)) in out.iter_mut().zip(boundaries) {
         if *mark == 0 {
             *mark = if count >= *upper { 1 } else if count <= *lower { -1 } else { 0 };
         }
@@ -189,6 +183,14 @@ fn ended(marks: &Marks) -> bool {
     let low = with(1).max().unwrap_or(0);
     let high = with(-1).min().unwrap_or(1_000_000);
     low > high || STAR_BUCKETS.iter().any(|(left, right)| *left <= low && high <= *right)
+}
+
+/// Counts strictly between these meet no boundary of an open threshold.
+fn nearest(marks: &Marks, boundaries: &Boundaries) -> (i64, i64) {
+    let each_open = || boundaries.iter().zip(marks).filter(|(_, m)| **m == 0).map(|(b, _)| *b);
+    let upper = each_open().map(|b| b.0).min().unwrap_or(i64::MAX);
+    let lower = each_open().map(|b| b.1).max().unwrap_or(-1);
+    (upper, lower)
 }
 
 /// Chance by count from `first` on.
@@ -212,6 +214,80 @@ impl Spread {
             self.chance.resize(place + 1, 0.0);
         }
         self.chance[place] += chance;
+    }
+
+    fn counts(&self) -> impl Iterator<Item = (i64, f64)> + '_ {
+        self.chance.iter().enumerate().map(|(i, chance)| (self.first + i as i64, *chance))
+    }
+
+    /// The chance of each count after one more draw, a one with chance (alpha + count) × scale.
+    fn after_draw(&self, alpha: f64, scale: f64) -> impl Iterator<Item = (i64, f64)> + '_ {
+        let mut risen = 0.0;
+        let each = (0..=self.chance.len()).map(move |i| {
+            let count = self.first + i as i64;
+            let here = self.chance.get(i).copied().unwrap_or(0.0);
+            let rising = here * (alpha + count as f64) * scale;
+            let chance = here - rising + risen;
+            risen = rising;
+            (count, chance)
+        });
+        each.filter(|(_, chance)| *chance >= 1e-300)
+    }
+}
+
+/// The chance of each place, marks and count of ones, that has not ended.
+type Places = BTreeMap<Marks, Spread>;
+
+/// Draws of a p that has a Beta(alpha, beta) distribution, followed without p: given s ones in n draws the next is a
+/// one with chance (alpha + s) / (alpha + beta + n).
+struct Draws {
+    alpha: f64,
+    beta: f64,
+    n: u64,
+    open: Places,
+    crossed: f64,
+}
+
+impl Draws {
+    fn begin(alpha: f64, beta: f64) -> Draws {
+        let open = Places::from([([0; 9], Spread { first: 0, chance: vec![1.0] })]);
+        Draws { alpha, beta, n: 0, open, crossed: 0.0 }
+    }
+
+    /// One more draw, with the boundaries of its step.
+    fn advance(&mut self, boundaries: &Boundaries) {
+        let mut next = Places::new();
+        for (marks, spread) in std::mem::take(&mut self.open) {
+            self.advance_under(&marks, &spread, boundaries, &mut next);
+        }
+        self.open = next;
+        self.n += 1;
+    }
+
+    /// One more draw at the places with the same marks.
+    fn advance_under(&mut self, marks: &Marks, spread: &Spread, boundaries: &Boundaries, next: &mut Places) {
+        let scale = 1.0 / (self.alpha + self.beta + self.n as f64);
+        let (upper, lower) = nearest(marks, boundaries);
+        // Nearly all counts keep the marks: apart, they need no search in the map.
+        let mut same = Spread::default();
+        for (count, chance) in spread.after_draw(self.alpha, scale) {
+            if lower < count && count < upper {
+                same.add(count, chance);
+                continue;
+            }
+            let after = mark(marks, count, boundaries);
+            if !ended(&after) {
+                next.entry(after).or_default().add(count, chance);
+            } else if after.windows(2).any(|pair| pair[0] < pair[1]) {
+                self.crossed += chance;
+            }
+        }
+        for (count, chance) in next.get(marks).into_iter().flat_map(Spread::counts) {
+            same.add(count, chance);
+        }
+        if !same.chance.is_empty() {
+            next.insert(*marks, same);
+        }
     }
 }
 
@@ -257,97 +333,58 @@ struct Expectation {
     /// Steps after which all has ended.
     last: u64,
     crossed: f64,
-    bounds: Vec<[(i64, i64); 9]>,
+    boundaries: Vec<Boundaries>,
 }
 
-/// The mean number of draws when p has a Beta(alpha, beta) distribution. Given s ones in n
-/// draws the next is a one with chance (alpha + s) / (alpha + beta + n), so the draws can be
-/// followed without p. With bounds from an earlier call, these are used again.
-///
-/// For p uniform up to c only, the chance of each place is the uniform one times the chance
-/// that a Beta(s + 1, n - s + 1) is at most c, over c: a binomial tail of n + 1 trials.
-fn expectation(alpha: f64, beta: f64, known: Option<&[[(i64, i64); 9]]>) -> Expectation {
-    let mut walks: Vec<Quick> = STAR_THRESHOLDS
-        .iter()
-        .map(|at| Quick::begin(*at as u128, HALF_THOUSANDTH, DELAY as u128, Slip::None))
-        .collect();
-    let mut open: BTreeMap<Marks, Spread> = BTreeMap::from([([0; 9], Spread { first: 0, chance: vec![1.0] })]);
-    let mut tail = Tail { c: PART, first: 1, chance: vec![PART] };
-    let mut out = Expectation { mean: 0.0, mean_of_part: 0.0, last: 0, crossed: 0.0, bounds: Vec::new() };
-    while !open.is_empty() {
-        out.mean += open.values().flat_map(|s| &s.chance).sum::<f64>();
-        if known.is_none() {
-            for spread in open.values() {
-                for (i, chance) in spread.chance.iter().enumerate() {
-                    out.mean_of_part += chance * tail.at_least(spread.first as usize + i + 1) / PART;
-                }
-            }
-            tail.advance();
+/// The boundaries of the next step; a threshold that is open nowhere walks no more.
+fn advance_open(walks: &mut [Quick], open: &Places) -> Boundaries {
+    let mut out = [(0, 0); 9];
+    for (i, walk) in walks.iter_mut().enumerate() {
+        if open.keys().any(|marks| marks[i] == 0) {
+            walk.advance();
         }
-        let n = out.last;
-        out.last += 1;
-        let bounds: [(i64, i64); 9] = match known {
-            Some(known) => known[n as usize],
-            None => {
-                let mut now = [(0, 0); 9];
-                for (i, walk) in walks.iter_mut().enumerate() {
-                    if open.keys().any(|marks| marks[i] == 0) {
-                        walk.advance();
-                    }
-                    now[i] = (walk.upper, walk.lower);
-                }
-                out.bounds.push(now);
-                now
-            }
-        };
-        let mut next: BTreeMap<Marks, Spread> = BTreeMap::new();
-        for (marks, spread) in &open {
-            // Counts strictly between these meet no boundary.
-            let each_open = || bounds.iter().zip(marks).filter(|(_, m)| **m == 0).map(|(b, _)| *b);
-            let upper = each_open().map(|b| b.0).min().unwrap_or(i64::MAX);
-            let lower = each_open().map(|b| b.1).max().unwrap_or(-1);
-            let mut same = Spread::default();
-            let mut risen = 0.0;
-            let scale = 1.0 / (alpha + beta + n as f64);
-            for i in 0..=spread.chance.len() {
-                let count = spread.first + i as i64;
-                let here = spread.chance.get(i).copied().unwrap_or(0.0);
-                let rising = here * (alpha + count as f64) * scale;
-                let chance = here - rising + risen;
-                risen = rising;
-                if chance < 1e-300 {
-                    continue;
-                }
-                if lower < count && count < upper {
-                    same.add(count, chance);
-                    continue;
-                }
-                let after = mark(marks, count, &bounds);
-                if !ended(&after) {
-                    next.entry(after).or_default().add(count, chance);
-                } else if after.windows(2).any(|pair| pair[0] < pair[1]) {
-                    out.crossed += chance;
-                }
-            }
-            if let Some(other) = next.get(marks) {
-                for (i, chance) in other.chance.iter().enumerate() {
-                    same.add(other.first + i as i64, *chance);
-                }
-            }
-            if !same.chance.is_empty() {
-                next.insert(*marks, same);
-            }
-        }
-        open = next;
+        out[i] = (walk.upper, walk.lower);
     }
     out
 }
 
+/// The mean number of draws when p has a Beta(alpha, beta) distribution. With boundaries from an earlier call, these
+/// are used again.
+///
+/// For p uniform up to c only, the chance of each place is the uniform one times the chance
+/// that a Beta(s + 1, n - s + 1) is at most c, over c: a binomial tail of n + 1 trials.
+fn expectation(alpha: f64, beta: f64, known: Option<&[Boundaries]>) -> Expectation {
+    let mut walks: Vec<Quick> = STAR_THRESHOLDS
+        .iter()
+        .map(|at| Quick::begin(*at as u128, HALF_THOUSANDTH, DELAY as u128, Slip::None))
+        .collect();
+    let mut draws = Draws::begin(alpha, beta);
+    let mut tail = Tail { c: PART, first: 1, chance: vec![PART] };
+    let (mut mean, mut mean_of_part, mut boundaries) = (0.0, 0.0, Vec::new());
+    while !draws.open.is_empty() {
+        mean += draws.open.values().flat_map(|s| &s.chance).sum::<f64>();
+        let now = match known {
+            Some(known) => known[draws.n as usize],
+            None => {
+                for (count, chance) in draws.open.values().flat_map(Spread::counts) {
+                    mean_of_part += chance * tail.at_least(count as usize + 1) / PART;
+                }
+                tail.advance();
+                let now = advance_open(&mut walks, &draws.open);
+                boundaries.push(now);
+                now
+            }
+        };
+        draws.advance(&now);
+    }
+    Expectation { mean, mean_of_part, last: draws.n, crossed: draws.crossed, boundaries }
+}
+
 /// Draws until the end, for one p.
-fn simulate(rng: &mut Rng, p: f64, bounds: &[[(i64, i64); 9]]) -> u64 {
+fn simulate(rng: &mut Rng, p: f64, boundaries: &[Boundaries]) -> u64 {
     let mut marks: Marks = [0; 9];
     let mut ones = 0;
-    for (n, at) in bounds.iter().enumerate() {
+    for (n, at) in boundaries.iter().enumerate() {
         ones += (rng.unit() < p) as i64;
         let after = mark(&marks, ones, at);
         if after != marks {
@@ -357,15 +394,15 @@ fn simulate(rng: &mut Rng, p: f64, bounds: &[[(i64, i64); 9]]) -> u64 {
             }
         }
     }
-    unreachable!("every run ends within the bounds")
+    unreachable!("every run ends within the boundaries")
 }
 
 /// Mean and its standard error, p uniform.
-fn simulated(runs: u64, rng: &mut Rng, bounds: &[[(i64, i64); 9]]) -> (f64, f64) {
+fn simulated(runs: u64, rng: &mut Rng, boundaries: &[Boundaries]) -> (f64, f64) {
     let (mut sum, mut squares) = (0.0, 0.0);
     for _ in 0..runs {
         let p = rng.unit();
-        let draws = simulate(rng, p, bounds) as f64;
+        let draws = simulate(rng, p, boundaries) as f64;
         sum += draws;
         squares += draws * draws;
     }
@@ -378,9 +415,9 @@ fn mean_draws(runs: u64, seed: u64) -> bool {
     let began = Instant::now();
     let uniform = expectation(1.0, 1.0, None);
     let first = began.elapsed().as_secs_f64();
-    let beta = expectation(0.5, 25.0, Some(&uniform.bounds));
+    let beta = expectation(0.5, 25.0, Some(&uniform.boundaries));
     let second = began.elapsed().as_secs_f64() - first;
-    let by_chance = simulated(runs, &mut Rng::new(seed, 5), &uniform.bounds);
+    let by_chance = simulated(runs, &mut Rng::new(seed, 5), &uniform.boundaries);
     let third = began.elapsed().as_secs_f64() - first - second;
     println!("every run ends by draw {}; took {first:.1} + {second:.1} + {third:.1} s", uniform.last);
     println!("{:<32}{:>12}{:>10}{:>22}", "distribution of p", "expectation", "Table 2", "simulated (+- s.e.)");

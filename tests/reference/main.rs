@@ -14,6 +14,8 @@ mod scenes;
 mod selfcheck;
 mod sequential;
 mod spoiled;
+mod tally;
+mod weights;
 
 use std::io::{Read, Write};
 use std::process::exit;
@@ -48,43 +50,50 @@ impl Words {
 
 const SEED: u64 = 20_251;
 
+fn usage() -> ! {
+    eprintln!("{USAGE}");
+    exit(2)
+}
+
+fn compare_program(words: &Words, seed: u64) -> bool {
+    let Some(program) = words.all("--program").pop() else {
+        eprintln!("compare needs --program PATH");
+        exit(2)
+    };
+    compare::run(&compare::Setting {
+        program,
+        args: words.all("--arg"),
+        seed,
+        threads: words.number("--threads", 2).max(1) as usize,
+        keep: words.all("--keep").pop(),
+    })
+}
+
+fn be_program() {
+    let stored = std::fs::read("plan").ok();
+    let input = std::io::BufReader::new(std::io::stdin()).bytes().map_while(|byte| byte.ok());
+    let line = sequential::program_on(stored.as_deref(), input);
+    std::io::stdout().write_all(line.as_bytes()).expect("standard output");
+}
+
 fn main() {
     let mut words: Vec<String> = std::env::args().skip(1).collect();
     if words.is_empty() {
-        eprintln!("{USAGE}");
-        exit(2)
+        usage()
     }
     let command = words.remove(0);
     let words = Words(words);
     let seed = words.number("--seed", SEED);
     let good = match command.as_str() {
         "check" => selfcheck::run(seed),
-        "compare" => {
-            let Some(program) = words.all("--program").pop() else {
-                eprintln!("compare needs --program PATH");
-                exit(2)
-            };
-            compare::run(&compare::Setting {
-                program,
-                args: words.all("--arg"),
-                seed,
-                threads: words.number("--threads", 2).max(1) as usize,
-                keep: words.all("--keep").pop(),
-            })
-        }
+        "compare" => compare_program(&words, seed),
         "gandy" => gandy::run(words.number("--steps", 1000), words.number("--runs", 20_000), seed),
         "spoiled" => spoiled::run(seed),
         "program" => {
-            let stored = std::fs::read("plan").ok();
-            let input = std::io::BufReader::new(std::io::stdin()).bytes().map_while(|byte| byte.ok());
-            let line = sequential::program_on(stored.as_deref(), input);
-            std::io::stdout().write_all(line.as_bytes()).expect("standard output");
+            be_program();
             true
         }
-        _ => {
-            eprintln!("{USAGE}");
-            exit(2)
-        }
+        _ => usage(),
     };
     exit(if good { 0 } else { 1 })
 }

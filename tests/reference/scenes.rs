@@ -1,6 +1,6 @@
 //! Good calls of a draw, and ways to spoil them.
 
-use crate::cases::any_plan;
+use crate::cases::{any_horizon, any_plan};
 use crate::host::{plan_of, Plan, Record, State, ABOVE, AT_MOST, OPEN};
 use crate::judge::{live, spending, PART, WORD_LIMIT};
 use crate::plan::{LARGEST_ALLOWANCE, WHOLE};
@@ -57,9 +57,9 @@ fn plan_past_counts(rng: &mut Rng, plan: &mut Plan) {
 }
 
 pub fn good_plan(rng: &mut Rng) -> Plan {
-    let horizon = if rng.chance(1, 3) { rng.scale(1, 300) } else { rng.scale(1, 50_000) };
+    let horizon = any_horizon(rng);
     let least = rng.pick(&[1, 1, 1000]);
-    let mut plan = plan_of(&any_plan(rng, least, horizon as u32));
+    let mut plan = plan_of(&any_plan(rng, least, horizon));
     if rng.chance(1, 2) {
         plan_past_counts(rng, &mut plan);
     }

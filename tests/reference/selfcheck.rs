@@ -1,13 +1,14 @@
 //! The reference held to the rules' own examples and facts; no program is needed.
 
-use crate::big::Big;
 use crate::boundary::{spending, Literal, Quick, Slip};
 use crate::cases::{self, plan_f, Draft};
 use crate::compare::kind_of_line;
-use crate::examples::{self, largest_plan};
+use crate::examples::{self, gap_plan, half_allowance_plan, largest_plan};
 use crate::plan::{read, LARGEST_ALLOWANCE, MILLION, WHOLE};
 use crate::rng::Rng;
 use crate::sequential::{program, program_with, Answer, Mark, Test};
+use crate::tally::{named, Counts};
+use crate::weights::Weights;
 use std::collections::BTreeMap;
 use std::time::Instant;
 
@@ -63,12 +64,10 @@ fn numbered(report: &mut Report) {
     let three = vec![(0, 10_000), (10_000, 50_000), (50_000, 1_000_000)];
     let p7 = marked(pair.clone(), three.clone(), &[Mark::Above(1), Mark::Open]);
     report.check("P7", p7 == ((10_000, 1_000_000), Answer::Open));
-    let p8 = marked(pair.clone(), three, &[Mark::AtMost(1), Mark::Above(2)]);
+    let p8 = marked(pair, three, &[Mark::AtMost(1), Mark::Above(2)]);
     report.check("P8", p8 == ((50_000, 10_000), Answer::Crossed));
-    let p9 = Draft { thresholds: vec![(50_000, 2_199_023_255_552)], ..plan_f() };
-    report.check("P9", read(&p9.store()).err() == Some(3));
-    let p10 = Draft { thresholds: pair, buckets: vec![(0, 10_000), (50_000, 1_000_000)], ..plan_f() };
-    report.check("P10", read(&p10.store()).err() == Some(6));
+    report.check("P9", read(&half_allowance_plan().store()).err() == Some(3));
+    report.check("P10", read(&gap_plan().store()).err() == Some(6));
 
     report.check("plan F is 44 bytes", plan_f().store().len() == 44);
     let plan = read(&plan_f().store()).expect("plan F");
@@ -132,47 +131,33 @@ fn facts(report: &mut Report, seed: u64) {
 }
 
 /// Exact weights of the strings that meet each boundary, against the spent masses.
+fn chances_of(report: &mut Report, at: u64, allowance: u128, delay: u128) {
+    let mut walk = Quick::begin(at as u128, allowance, delay, Slip::None);
+    let mut weights = Weights::begin(at, MILLION as u64);
+    let mut good = true;
+    for n in 1..=120u64 {
+        walk.advance();
+        weights.advance();
+        weights.settle(walk.upper, walk.lower);
+        let limit = weights.whole.times(spending(allowance, delay, n as u128) as u64);
+        for (met, spent) in [(&weights.above, walk.spent_above), (&weights.below, walk.spent_below)] {
+            let exact = met.times(WHOLE as u64);
+            let spent = weights.whole.times(spent as u64);
+            good &= exact.at_most(&limit);
+            good &= exact.at_most(&spent);
+            good &= spent.at_most(&exact.plus(&weights.whole.times(769 * n)));
+        }
+    }
+    report.check(&format!("chances for threshold {at}, allowance {allowance}, delay {delay}"), good);
+}
+
 fn chances(report: &mut Report, seed: u64) {
     for round in 0..12u64 {
         let rng = &mut Rng::new(seed, 88_000 + round);
         let at = rng.range(1, 999_999);
         let allowance = rng.scale(1, LARGEST_ALLOWANCE as u64) as u128;
         let delay = rng.scale(1, 3000) as u128;
-        let mut walk = Quick::begin(at as u128, allowance, delay, Slip::None);
-        let mut weight: BTreeMap<i64, Big> = BTreeMap::from([(0, Big::from(1))]);
-        let (mut above, mut below) = (Big::from(0), Big::from(0));
-        let mut all = Big::from(1);
-        let mut good = true;
-        for n in 1..=120u64 {
-            walk.advance();
-            let mut next: BTreeMap<i64, Big> = BTreeMap::new();
-            for (count, w) in &weight {
-                next.entry(*count).or_default().add(&w.times(MILLION as u64 - at));
-                next.entry(count + 1).or_default().add(&w.times(at));
-            }
-            all = all.times(MILLION as u64);
-            above = above.times(MILLION as u64);
-            below = below.times(MILLION as u64);
-            weight.clear();
-            for (count, w) in next {
-                if count >= walk.upper {
-                    above.add(&w);
-                } else if count <= walk.lower {
-                    below.add(&w);
-                } else {
-                    weight.insert(count, w);
-                }
-            }
-            let limit = all.times(spending(allowance, delay, n as u128) as u64);
-            for (exact, spent) in [(&above, walk.spent_above), (&below, walk.spent_below)] {
-                let exact = exact.times(WHOLE as u64);
-                let spent = all.times(spent as u64);
-                good &= exact.at_most(&limit);
-                good &= exact.at_most(&spent);
-                good &= spent.at_most(&exact.plus(&all.times(769 * n)));
-            }
-        }
-        report.check(&format!("chances for threshold {at}, allowance {allowance}, delay {delay}"), good);
+        chances_of(report, at, allowance, delay);
     }
 }
 
@@ -186,10 +171,9 @@ fn mistakes(report: &mut Report, seed: u64) {
         Slip::StaleBoundary,
         Slip::CrossedDecided,
     ];
-    let mut shown: BTreeMap<String, u64> = BTreeMap::new();
+    let mut shown: Counts<String> = Counts::new();
     let mut runs = 0;
-    let crossed_from = cases::HORIZON_RUNS + cases::LONGER_RUNS + cases::LONG_RUNS + cases::WIDE_RUNS;
-    for place in crossed_from..crossed_from + 1200 {
+    for place in cases::CROSSED_FROM..cases::CROSSED_FROM + 1200 {
         let case = cases::random_case(seed, place);
         let right = program(case.plan.bytes(), &case.input);
         runs += 1;
@@ -198,8 +182,7 @@ fn mistakes(report: &mut Report, seed: u64) {
             *shown.entry(format!("{slip:?}")).or_default() += (wrong != right) as u64;
         }
     }
-    let list: Vec<String> = shown.iter().map(|(slip, count)| format!("{slip} {count}")).collect();
-    println!("mistakes shown by {runs} of the runs: {}", list.join(", "));
+    println!("mistakes shown by {runs} of the runs: {}", named(&shown));
     for (slip, count) in &shown {
         report.check(&format!("the runs show the mistake {slip}"), *count > 0);
     }
@@ -207,9 +190,8 @@ fn mistakes(report: &mut Report, seed: u64) {
 
 /// The recipe for crossing must lead there.
 fn crossings(report: &mut Report, seed: u64) {
-    let from = cases::HORIZON_RUNS + cases::LONGER_RUNS + cases::LONG_RUNS + cases::WIDE_RUNS;
-    let mut kinds: BTreeMap<String, u64> = BTreeMap::new();
-    for place in from..from + cases::CROSSED_RUNS {
+    let mut kinds: Counts<String> = Counts::new();
+    for place in cases::CROSSED_FROM..cases::CROSSED_FROM + cases::CROSSED_RUNS {
         let case = cases::random_case(seed, place);
         *kinds.entry(kind_of_line(&program(case.plan.bytes(), &case.input))).or_default() += 1;
     }

@@ -1,13 +1,13 @@
 //! The library's entries on good and spoiled plans, states, words and draws, each outcome held to `judge`.
 
 use crate::cases::Draft;
-use crate::examples::crossing_plan;
+use crate::examples::{crossing_plan, widening_plan};
 use crate::host::{self, draft_of, plan_of, Plan, State, CROSSED, DECIDED, OPEN, REFUSED, SPENT, WIDE};
 use crate::judge::{self, slacks, Fault, CLAUSES, NEVER_ALONE, NEVER_TAKEN, PART};
 use crate::plan::read;
 use crate::rng::Rng;
 use crate::scenes::{good_plan, made_up, spoil, Scene};
-use std::collections::BTreeMap;
+use crate::tally::{conclude, named, sized, Counts};
 use std::time::Instant;
 
 const SCENES: u64 = 9000;
@@ -18,11 +18,11 @@ const SHOWN: u64 = 3;
 
 #[derive(Default)]
 struct Tally {
-    counts: BTreeMap<(&'static str, String), u64>,
+    counts: Counts<(&'static str, String)>,
     /// For each clause: draws at its limit taken, and refused by 10; just past it, and so alone.
     clauses: [[u64; 4]; 14],
-    noticed: BTreeMap<String, u64>,
-    draws_by_k: BTreeMap<u32, u64>,
+    noticed: Counts<String>,
+    draws_by_k: Counts<u32>,
     draws: u64,
     calls: u64,
     differ: u64,
@@ -232,11 +232,17 @@ fn compare_read(tally: &mut Tally, rng: &mut Rng, plan: &Plan, mut form: Vec<u8>
     }
 }
 
-/// A test carried from its beginning for some draws, each compared.
-fn carried(tally: &mut Tally, rng: &mut Rng, plan: Plan) -> Scene {
-    let words = vec![rng.next(); PART * plan.count as usize];
+/// A test at its beginning, its lent words all the same before.
+fn begun(tally: &mut Tally, plan: Plan, word: u64) -> Scene {
+    let words = vec![word; PART * plan.count as usize];
     let mut scene = Scene { plan, state: State::default(), words, draw: 0 };
     (scene.state, scene.words) = compare_begin(tally, &scene);
+    scene
+}
+
+/// A test carried from its beginning for some draws, each compared.
+fn carried(tally: &mut Tally, rng: &mut Rng, plan: Plan) -> Scene {
+    let mut scene = begun(tally, plan, rng.next());
     let p = rng.unit();
     for _ in 0..rng.scale(1, 150) {
         scene.draw = (rng.unit() < p) as u8;
@@ -251,9 +257,7 @@ fn carried(tally: &mut Tally, rng: &mut Rng, plan: Plan) -> Scene {
 
 /// A test carried by given draws to its end, each compared; its states from a step on.
 fn carried_to_end(tally: &mut Tally, draft: &Draft, draws: impl Fn(u32) -> bool, from: u32) -> Vec<Scene> {
-    let plan = plan_of(draft);
-    let mut scene = Scene { plan, state: State::default(), words: vec![7; PART * plan.count as usize], draw: 0 };
-    (scene.state, scene.words) = compare_begin(tally, &scene);
+    let mut scene = begun(tally, plan_of(draft), 7);
     let mut out = Vec::new();
     while scene.state.answer == OPEN {
         scene.draw = draws(scene.state.n) as u8;
@@ -269,13 +273,7 @@ fn carried_to_end(tally: &mut Tally, draft: &Draft, draws: impl Fn(u32) -> bool,
 fn chosen(tally: &mut Tally) -> Vec<Scene> {
     let mut out = carried_to_end(tally, &crossing_plan(), |n| n >= 80, 90);
     for horizon in [768, 769, 50_000] {
-        let half = Draft {
-            thresholds: vec![(500_000, 1)],
-            delay: 1,
-            horizon,
-            buckets: vec![(0, 500_000), (500_000, 1_000_000)],
-        };
-        out.extend(carried_to_end(tally, &half, |n| n % 2 == 1, 764));
+        out.extend(carried_to_end(tally, &widening_plan(horizon), |n| n % 2 == 1, 764));
     }
     out
 }
@@ -322,8 +320,7 @@ impl Tally {
 
     fn print(&self) {
         println!("calls compared: {}, of them draws {}", self.calls, self.draws);
-        let list: Vec<String> = self.draws_by_k.iter().map(|(k, count)| format!("{k}:{count}")).collect();
-        println!("draws by thresholds: {}", list.join(" "));
+        println!("draws by thresholds: {}", sized(&self.draws_by_k));
         for (group, kinds) in EXPECTED {
             let list: Vec<String> = kinds.split(' ').map(|kind| format!("{kind} {}", self.of(group, kind))).collect();
             println!("{group}: {}", list.join(", "));
@@ -334,8 +331,7 @@ impl Tally {
         for (name, [taken, ended, out, alone]) in CLAUSES.iter().zip(self.clauses) {
             println!("{name:<20}{taken:>12}{ended:>12}{out:>12}{alone:>12}");
         }
-        let list: Vec<String> = self.noticed.iter().map(|(fault, count)| format!("{fault} {count}")).collect();
-        println!("mistakes noticed: {}", list.join(", "));
+        println!("mistakes noticed: {}", named(&self.noticed));
     }
 
     /// What never came up.
@@ -384,11 +380,5 @@ pub fn run(seed: u64) -> bool {
     if tally.differ > 0 {
         faults.push(format!("{} calls differ", tally.differ));
     }
-    for fault in &faults {
-        println!("FAILED: {fault}");
-    }
-    if faults.is_empty() {
-        println!("spoiled: all outcomes agree");
-    }
-    faults.is_empty()
+    conclude(&faults, "spoiled: all outcomes agree")
 }
