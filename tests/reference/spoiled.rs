@@ -351,7 +351,7 @@ impl Tally {
         let noticed = |fault: &String| self.noticed.get(fault).is_some_and(|count| *count > 0);
         let mistakes = mistakes().into_iter().map(name);
         out.extend(mistakes.filter(|fault| !noticed(fault)).map(|fault| format!("not noticed: {fault}")));
-        if self.draws < 50_000 {
+        if self.draws < 200_000 {
             out.push("too few draws".into());
         }
         out
