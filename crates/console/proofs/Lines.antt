@@ -63,9 +63,13 @@ module _ (n r : ℕ) (f : Fewest 10 1 n r) where
   fewest-places : n < 10 ^ 20 → r ≡ places n
   unfolding places
   fewest-places h =
-      sym (search-only 19 1 r (λ k. lt? n (10 ^ k)) (f .0) (fewest-le 20 (omega arith) h) (λ x. le?-complete (suc n) (10 ^ r) (f .1)) (λ i x y. le?-fails (suc n) (10 ^ i) (omega (arith, short i x y))))
+      sym
+      (search-only 19 1 r (λ k. lt? n (10 ^ k)) (f .0) (fewest-le 20 (omega arith) h)
+      (λ x. le?-complete (suc n) (10 ^ r) (f .1))
+      (λ i x y. le?-fails (suc n) (10 ^ i) (omega (arith, short i x y))))
 
-  pub decimal-is : (text : List ℕ) → n < 10 ^ 10 → r ≤ length text → take r text ≡ digits 10 r n → (length (take r text) ≤ 10) × (take r text ≡ decimal n)
+  pub decimal-is : (text : List ℕ) → n < 10 ^ 10 → r ≤ length text → take r text ≡ digits 10 r n
+      → (length (take r text) ≤ 10) × (take r text ≡ decimal n)
   unfolding decimal
   decimal-is text h k e =
       (omega (arith, length-take-le r text k, fewest-le 10 (omega arith) h), rw e (ap (λ (m : ℕ). digits 10 m n) (fewest-places (omega arith))))

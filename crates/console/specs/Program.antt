@@ -3,7 +3,7 @@
 use mathlib.Core.Path.{_≡_}
 use mathlib.Core.Bool.{Bool, true, false}
 use mathlib.Core.List.{List, _++_}
-use Prim.Native.Nat.{ℕ, zero, suc, _*_, _≤_}
+use Prim.Native.Nat.{ℕ, zero, suc, _*_}
 use lib.ListN.{length, take, drop}
 use Rattle.walk.specs.Numbers.{le?}
 use Rattle.walk.specs.Units.{wide}

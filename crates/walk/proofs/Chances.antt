@@ -14,7 +14,7 @@ use Rattle.walk.specs.Mass.{reaching}
 use Rattle.walk.specs.Walk.{previous, newMass, massFrom, massBelow, start, absorbed, stepWalk, walk, firstAt, upperAt, NoWideBefore, noWideBefore?}
 use Rattle.walk.specs.Row.{total, rows, roundedBy}
 use Rattle.walk.specs.Strings.{Draws, weight, Side, Upper, Lower, MeetsFirst, verdict, mark, isOn, isOpen, lastStep, chance}
-use Rattle.walk.specs.Chance.{Meets, meets?, meeting, spent, Bounds, AllowedTheorem, RoundedChanceTheorem, ChanceTheorem}
+use Rattle.walk.specs.Chance.{Meets, meets?, meeting, spent, AllowedTheorem, RoundedChanceTheorem, ChanceTheorem}
 use Rattle.walk.proofs.Tests.{and-true, only-scale, sum-cong, sum-le, sum-mul}
 use Rattle.walk.proofs.Rounding.{mass-ge}
 use Rattle.walk.proofs.RowSteps.{rows-sound, rows-total, rounded-few}

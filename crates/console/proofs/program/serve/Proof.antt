@@ -31,7 +31,8 @@ returns-2 : tie.Need-returns-2
 unfolding wide
 returns-2 c =
     let i = c .before .before .before .before .before in
-    (c .refused-line2 .ensures .0, serves-8 _ _ _ _ _ _ (i .before .before .read-plan .ensures) (omega arith) (c .before .before .if2 .taken) (c .refused-line2 .ensures .1 .1))
+    let line = c .refused-line2 .ensures in
+    (line .0, serves-8 _ _ _ _ _ _ (i .before .before .read-plan .ensures) (omega arith) (c .before .before .if2 .taken) (line .1 .1))
 
 sub-play : tie.Need-sub-play
 sub-play c = search needs
@@ -54,7 +55,9 @@ returns-3 c =
     let i = c .before .before .before .before .before in
     let got = i .before .before .before .before .before .read-plan .ensures in
     let a = i .before .before .before .before .before .before .before .before .args in
-    (c .before .before .play .ensures .0, serves (a .stored .now) (a .words .now) _ _ _ _ got (omega arith) (769 * (i .before .before .before .before .before .read-plan .result .plan .count) - 0) (omega arith) (omega arith) _ (c .before .before .play .ensures .1))
+    let m = 769 * (i .before .before .before .before .before .read-plan .result .plan .count) - 0 in
+    let played = c .before .before .play .ensures in
+    (played .0, serves (a .stored .now) (a .words .now) _ _ _ _ got (omega arith) m (omega arith) (omega arith) _ (played .1))
 
 pub serve-spec : {M : Type 1} → statement M
 serve-spec =
