@@ -1,7 +1,7 @@
 -- Laws of the tests by place and of the refusals in order (specs/Tests): what each says, from what its parts say.
 use mathlib.Core.Path.{_≡_, refl, sym, _∙_}
 use mathlib.Core.Bool.{Bool, true, false, not, _&&_, _||_}
-use mathlib.Core.List.{List, _∷_}
+use mathlib.Core.List.{List, [], _∷_}
 use mathlib.Core.Logic.{_↔_, _⊎_, inl, inr, ⊎-elim}
 use Prim.Native.Nat.{ℕ, zero, suc, _+_, _≤_, _<_}
 use native.Mathlib.Nat.{eq-or-lt-of-le}
@@ -197,8 +197,25 @@ smallest-cong (suc n) f g most e = rw (smallest-cong n f g most (λ i l. e i (om
 
 -- ---- refusals in order
 
--- there is none: the first rule is kept, and there is none of the others
+-- the first where it refuses, and the only one
+pub first-some : (r : ℕ) (rs : List ℕ) → ¬ (r ≡ 0) → firstRefusal (r ∷ rs) ≡ r
+first-some zero rs n = absurd (n refl)
+first-some (suc r) rs n = refl
+
+pub first-one : (r : ℕ) → firstRefusal (r ∷ []) ≡ r
+first-one zero = refl
+first-one (suc r) = refl
+
+-- there is none: the first is none, and there is none of the others
+pub none-both : {A B : Type 0} (r : ℕ) (rs : List ℕ) → (r ≡ 0) ↔ A → (firstRefusal rs ≡ 0) ↔ B → (firstRefusal (r ∷ rs) ≡ 0) ↔ (A × B)
+none-both zero rs x y = (λ e. (x .0 refl, y .0 e), λ h. y .1 (h .1))
+none-both (suc r) rs x y = (λ e. absurd (omega arith), λ h. absurd (omega (arith, x .1 (h .0))))
+
+-- the same where the first judges a rule, and of a last rule
 pub none-says : {A B : Type 0} (b : Bool) (r : ℕ) (rs : List ℕ) → (b ≡ true) ↔ A → (firstRefusal rs ≡ 0) ↔ B
     → (firstRefusal (unless b (suc r) ∷ rs) ≡ 0) ↔ (A × B)
 none-says true r rs x y = (λ e. (x .0 refl, y .0 e), λ h. y .1 (h .1))
 none-says false r rs x y = (λ e. absurd (omega arith), λ h. clash (sym (x .1 (h .0))))
+
+pub last-says : {A : Type 0} (b : Bool) (r : ℕ) → (b ≡ true) ↔ A → (firstRefusal (unless b (suc r) ∷ []) ≡ 0) ↔ A
+last-says b r x = let s = none-says b r [] x (λ e. e, λ e. e) in (λ e. s .0 e .0, λ a. s .1 (a, refl))

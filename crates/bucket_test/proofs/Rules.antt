@@ -9,20 +9,25 @@ use Rattle.walk.specs.Units.{million, allowanceLimit, horizonLimit}
 use Rattle.walk.specs.Spending.{IsSpending}
 use Rattle.walk.proofs.SpendingLaws.{spending-is}
 use Rattle.bucket_test.specs.Tests.{unless, firstRefusal}
-use Rattle.bucket_test.specs.Plan.{countLimit, bucketLimit, thresholdLimit, delayLimit, thresholdAt, allowanceAt, leftAt, rightAt, spendingOf, rule1, aboveBefore, rule2, rule3, rule4, permitted, bucketFits, rule5, rule6, planRefusal, Permitted, Covered, Accepted, AcceptedTheorem}
+use Rattle.bucket_test.specs.Plan.{countLimit, bucketLimit, thresholdLimit, delayLimit, countsFit, thresholdAt, allowanceAt, leftAt, rightAt, spendingOf, rule1, aboveBefore, rule2, rule3, rule4, permitted, bucketFits, rule5, rule6, planRefusal, Permitted, Covered, Accepted, AcceptedTheorem}
 use Rattle.bucket_test.specs.declared.Plan.{Plan}
 use Rattle.bucket_test.proofs.PlaceLaws.{both, either, neither, le-reads, eq-reads, within-reads, all-say, any-say, none-says}
 use Rattle.bucket_test.proofs.Cover.{covers}
 
+-- ---- each rule in words
+
+-- rule 1 is of the counts alone
+abbrev pub Counted : ℕ → ℕ → Type 0
+Counted count buckets = ((1 ≤ count) × (count ≤ countLimit)) × ((2 ≤ buckets) × (buckets ≤ bucketLimit))
+
+pub counts-say : (count buckets : ℕ) → (countsFit count buckets ≡ true) ↔ Counted count buckets
+unfolding countsFit
+counts-say count buckets = both (within-reads 1 countLimit count) (within-reads 2 bucketLimit buckets)
+
 module _ (p : Plan) where
-  -- ---- each rule in words
-
-  abbrev pub Counted : Type 0
-  Counted = ((1 ≤ p .count) × (p .count ≤ countLimit)) × ((2 ≤ p .buckets) × (p .buckets ≤ bucketLimit))
-
-  pub rule1-says : (rule1 p ≡ true) ↔ Counted
+  pub rule1-says : (rule1 p ≡ true) ↔ Counted (p .count) (p .buckets)
   unfolding rule1
-  rule1-says = both (within-reads 1 countLimit (p .count)) (within-reads 2 bucketLimit (p .buckets))
+  rule1-says = counts-say (p .count) (p .buckets)
 
   abbrev Above : ℕ → Type 0
   Above zero = Unit
@@ -93,7 +98,7 @@ module _ (p : Plan) where
   from2 = unless (rule2 p) 2 ∷ from3
 
   abbrev Kept : Type 0
-  Kept = Counted × (Rising × (Allowed × (Timed × (Fitting × (Covered p × (firstRefusal [] ≡ 0))))))
+  Kept = Counted (p .count) (p .buckets) × (Rising × (Allowed × (Timed × (Fitting × (Covered p × (firstRefusal [] ≡ 0))))))
 
   kept : (planRefusal p ≡ 0) ↔ Kept
   unfolding planRefusal

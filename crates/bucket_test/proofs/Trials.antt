@@ -6,7 +6,7 @@ use Rattle.walk.specs.Spending.{spending}
 use Rattle.walk.specs.Mass.{rounds, roundUp, reaching, massUp}
 use Rattle.walk.specs.Walk.{below, lower, massFrom, massBelow, upperBoundary, firstLive, start, absorbed, stepWalk, walk}
 use Rattle.bucket_test.specs.Tests.{eq?, allTo, anyTo, largestTo, smallestTo}
-use Rattle.bucket_test.specs.Plan.{spendingOf, rule1, aboveBefore, rule2, rule3, rule4, permitted, bucketFits, rule5, goesOnAt, rule6, planRefusal}
+use Rattle.bucket_test.specs.Plan.{countsFit, spendingOf, rule1, aboveBefore, rule2, rule3, rule4, permitted, bucketFits, rule5, goesOnAt, rule6, planRefusal}
 use Rattle.bucket_test.specs.Turn.{startRecord}
 use Rattle.bucket_test.specs.Answers.{lowOf, highOf, answerBy, answerOf}
 use Rattle.bucket_test.specs.Trials.{planF, computed, printed, TrialsTheorem}
@@ -14,5 +14,5 @@ use Rattle.bucket_test.specs.Trials.{planF, computed, printed, TrialsThe
 pub trials : TrialsTheorem
 unfolding computed printed planF spendingOf spending walk start stepWalk absorbed upperBoundary firstLive massFrom massBelow searchUp searchDown
     lower below massUp reaching roundUp rounds million M massLimit allowanceLimit horizonLimit le? eq? allTo anyTo largestTo smallestTo
-    rule1 aboveBefore rule2 rule3 rule4 permitted bucketFits rule5 goesOnAt rule6 planRefusal lowOf highOf answerBy answerOf startRecord
+    countsFit rule1 aboveBefore rule2 rule3 rule4 permitted bucketFits rule5 goesOnAt rule6 planRefusal lowOf highOf answerBy answerOf startRecord
 trials = (refl, refl)

@@ -25,6 +25,10 @@ thresholdLimit = 999999
 abbrev pub delayLimit : ℕ
 delayLimit = 65535
 
+-- K and B in their ranges; a stored form's counts are judged before there is a plan
+unfoldable pub countsFit : ℕ → ℕ → Bool
+countsFit count buckets = within 1 countLimit count && within 2 bucketLimit buckets
+
 module _ (p : Plan) where
   -- the threshold and the allowance at place i, the ends of the bucket at place j; places are counted from 0
   abbrev pub thresholdAt : ℕ → ℕ
@@ -47,7 +51,7 @@ module _ (p : Plan) where
 
   -- 1: K and B in their ranges
   unfoldable pub rule1 : Bool
-  rule1 = within 1 countLimit (p .count) && within 2 bucketLimit (p .buckets)
+  rule1 = countsFit (p .count) (p .buckets)
 
   -- 2: each threshold in its range and above the one before
   unfoldable pub aboveBefore : ℕ → Bool

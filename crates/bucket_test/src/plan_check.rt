@@ -3,7 +3,7 @@ ghost use mathlib.Core.Path.{_≡_};
 ghost use Prim.Native.Nat.{ℕ, _≤_};
 ghost use lib.ListN.{getD};
 ghost use Rattle.bucket_test.specs.Tests.{eq?, within, allTo, anyTo};
-ghost use Rattle.bucket_test.specs.Plan.{leftAt, rightAt, rule1, rule2, rule3, rule4, permitted, bucketFits, rule5, goesOnAt, rule6, planRefusal};
+ghost use Rattle.bucket_test.specs.Plan.{countsFit, leftAt, rightAt, rule2, rule3, rule4, permitted, bucketFits, rule5, goesOnAt, rule6, planRefusal};
 use crate::Plan;
 
 // From lo to hi, both included.
@@ -13,11 +13,11 @@ pub(crate) fn in_range(x: u32, lo: u32, hi: u32) -> bool
     lo <= x && x <= hi
 }
 
-// Rule 1: so many thresholds and so many buckets.
-fn counts_fit(p: Plan) -> bool
-    ensures { λ r. ⌜ r ≡ rule1 p ⌝ }
+// Rule 1, of any counts: so many thresholds and so many buckets. It is also the stored form's rule 1.
+pub fn counts_fit(count: u32, buckets: u32) -> bool
+    ensures { λ r. ⌜ r ≡ countsFit count buckets ⌝ }
 {
-    in_range(p.count, 1, 10) && in_range(p.buckets, 2, 16)
+    in_range(count, 1, 10) && in_range(buckets, 2, 16)
 }
 
 // Rule 2: each threshold in its range and above the one before. Judged after rule 1, which keeps the places inside the array.
@@ -183,7 +183,7 @@ fn buckets_cover(p: Plan) -> bool
 pub fn plan_refusal(p: Plan) -> u32
     ensures { λ r. ⌜ r ≡ planRefusal p ⌝ }
 {
-    if !counts_fit(p) {
+    if !counts_fit(p.count, p.buckets) {
         return 1;
     }
     if !thresholds_rise(p) {

@@ -106,5 +106,4 @@ module _ (bytes : List ℕ) where
           ) (part-all (headerSize + (12 * kc + 8 * bc)) (omega arith))
 
     pub bytes-back : readRefusal bytes ≡ 0 → encoded (planIn bytes) ≡ bytes
-    unfolding planIn
     bytes-back e = let s = readable bytes .0 e in form-whole (s .counts .0 .1) (s .counts .1 .1) (s .offsets) (s .sized)

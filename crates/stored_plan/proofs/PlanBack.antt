@@ -154,10 +154,9 @@ module _ (p : Plan) (a : Accepted p) where
   unfolding countIn bucketsIn
   form-read =
       let e = ignored p (counted p) (same p (a .count-range .1) (a .buckets-range .1) .counted-same) .refusal-same ∙ accepted p .1 a in
-      let q = accepted (counted p) .0 e in
       readable (encoded p) .1 record {
         long = rw (encoded-length p) (header-fits (p .count) (p .buckets));
-        counts = rw plan-back (q .count-range, q .buckets-range);
+        counts = rw (in-count, in-buckets) (a .count-range, a .buckets-range);
         offsets = (in-first, rw in-count in-second);
         sized = rw (in-count, in-buckets) (encoded-length p);
         accepted = rw plan-back e;

@@ -1,39 +1,20 @@
 -- What is handed back, by the refusals of a reading and of a writing in their order (specs/Reading, specs/Writing).
 use mathlib.Core.Path.{_≡_, refl, sym, _∙_}
-use mathlib.Core.Bool.{Bool, true}
 use mathlib.Core.List.{List, [], _∷_, _++_}
 use mathlib.Core.Logic.{_↔_}
 use Prim.Native.Nat.{ℕ, zero, suc, _≤_, _<_}
-use native.Mathlib.Omega.{arith}
 use lib.ListN.{length, drop}
 use Rattle.walk.specs.Numbers.{le?}
 use Rattle.walk.proofs.Tests.{le?-complete, le?-fails}
 use Rattle.bucket_test.specs.Tests.{unless, firstRefusal}
-use Rattle.bucket_test.specs.Plan.{rule1, planRefusal}
+use Rattle.bucket_test.specs.Plan.{countsFit, planRefusal}
 use Rattle.bucket_test.specs.declared.Plan.{Plan}
-use Rattle.bucket_test.proofs.PlaceLaws.{both, le-reads, eq-reads, none-says}
-use Rattle.bucket_test.proofs.Rules.{Counted, rule1-says}
+use Rattle.bucket_test.proofs.PlaceLaws.{both, le-reads, eq-reads, first-some, first-one, none-both, none-says, last-says}
+use Rattle.bucket_test.proofs.Rules.{Counted, counts-say}
 use Rattle.stored_plan.specs.Little.{field}
 use Rattle.stored_plan.specs.Form.{headerSize, bucketOffset, formSize, encoded}
 use Rattle.stored_plan.specs.Reading.{countIn, bucketsIn, planIn, offsetsFit, lengthFits, formRefusal, readRefusal, noPlan, decoded}
 use Rattle.stored_plan.specs.Writing.{writeRefusal, written, bytesAfter}
-
--- ---- refusals in order
-
-first-some : (r : ℕ) (rs : List ℕ) → ¬ (r ≡ 0) → firstRefusal (r ∷ rs) ≡ r
-first-some zero rs n = absurd (n refl)
-first-some (suc r) rs n = refl
-
-first-one : (r : ℕ) → firstRefusal (r ∷ []) ≡ r
-first-one zero = refl
-first-one (suc r) = refl
-
-none-both : {A B : Type 0} (r : ℕ) (rs : List ℕ) → (r ≡ 0) ↔ A → (firstRefusal rs ≡ 0) ↔ B → (firstRefusal (r ∷ rs) ≡ 0) ↔ (A × B)
-none-both zero rs x y = (λ e. (x .0 refl, y .0 e), λ h. y .1 (h .1))
-none-both (suc r) rs x y = (λ e. absurd (omega arith), λ h. absurd (omega (arith, x .1 (h .0))))
-
-last-says : {A : Type 0} (b : Bool) (r : ℕ) → (b ≡ true) ↔ A → (firstRefusal (unless b (suc r) ∷ []) ≡ 0) ↔ A
-last-says b r x = let s = none-says b r [] x (λ e. e, λ e. e) in (λ e. s .0 e .0, λ a. s .1 (a, refl))
 
 -- ---- a reading
 
@@ -63,25 +44,29 @@ module _ (bytes : List ℕ) where
     past-form z = past-header h ∙ rw (← e, z) (first-one (planRefusal (planIn bytes)))
 
   -- what the tests of a form say
+  abbrev pub Counts : Type 0
+  Counts = Counted (countIn bytes) (bucketsIn bytes)
+
   abbrev pub Offsets : Type 0
   Offsets = (field 2 4 bytes ≡ headerSize) × (field 2 6 bytes ≡ bucketOffset (countIn bytes))
 
   abbrev pub Sized : Type 0
   Sized = length bytes ≡ formSize (countIn bytes) (bucketsIn bytes)
 
-  pub form-says : (formRefusal bytes ≡ 0) ↔ (Counted (planIn bytes) × (Offsets × Sized))
+  pub form-says : (formRefusal bytes ≡ 0) ↔ (Counts × (Offsets × Sized))
   unfolding formRefusal offsetsFit lengthFits
   form-says =
-      let second = eq-reads (field 2 6 bytes) (bucketOffset (countIn bytes)) in
-      let offsets = both (eq-reads (field 2 4 bytes) headerSize) second in
-      let sized = last-says (lengthFits bytes) 6 (eq-reads (length bytes) (formSize (countIn bytes) (bucketsIn bytes))) in
+      let count = countIn bytes in
+      let buckets = bucketsIn bytes in
+      let offsets = both (eq-reads (field 2 4 bytes) headerSize) (eq-reads (field 2 6 bytes) (bucketOffset count)) in
+      let sized = last-says (lengthFits bytes) 6 (eq-reads (length bytes) (formSize count buckets)) in
       let from-size = unless (lengthFits bytes) 7 ∷ [] in
-      none-says (rule1 (planIn bytes)) 0 (unless (offsetsFit bytes) 7 ∷ from-size) (rule1-says (planIn bytes))
+      none-says (countsFit count buckets) 0 (unless (offsetsFit bytes) 7 ∷ from-size) (counts-say count buckets)
       (none-says (offsetsFit bytes) 6 from-size offsets sized)
 
 pub record Readable (bytes : List ℕ) : Type 0 where
   pub long : headerSize ≤ length bytes
-  pub counts : Counted (planIn bytes)
+  pub counts : Counts bytes
   pub offsets : Offsets bytes
   pub sized : Sized bytes
   pub accepted : planRefusal (planIn bytes) ≡ 0
@@ -90,8 +75,7 @@ module _ (bytes : List ℕ) where
   abbrev plan : ℕ
   plan = planRefusal (planIn bytes)
 
-  read-says : (readRefusal bytes ≡ 0)
-      ↔ ((headerSize ≤ length bytes) × ((Counted (planIn bytes) × (Offsets bytes × Sized bytes)) × (plan ≡ 0)))
+  read-says : (readRefusal bytes ≡ 0) ↔ ((headerSize ≤ length bytes) × ((Counts bytes × (Offsets bytes × Sized bytes)) × (plan ≡ 0)))
   unfolding readRefusal
   read-says =
       none-says (le? headerSize (length bytes)) 6 (formRefusal bytes ∷ plan ∷ []) (le-reads headerSize (length bytes))

@@ -5,7 +5,7 @@ use lib.ListN.{length, replicate}
 use Rattle.walk.specs.Numbers.{le?}
 use Rattle.walk.specs.Units.{million, allowanceLimit, horizonLimit}
 use Rattle.bucket_test.specs.Tests.{eq?, allTo, anyTo, overTo, joinTo}
-use Rattle.bucket_test.specs.Plan.{rule1, aboveBefore, rule2, rule3, rule4, permitted, bucketFits, rule5, goesOnAt, rule6, planRefusal}
+use Rattle.bucket_test.specs.Plan.{countsFit, rule1, aboveBefore, rule2, rule3, rule4, permitted, bucketFits, rule5, goesOnAt, rule6, planRefusal}
 use Rattle.bucket_test.specs.Trials.{planF}
 use Rattle.stored_plan.specs.Little.{toLE, fromLE, field}
 use Rattle.stored_plan.specs.Form.{bucketOffset, formSize, header, thresholdEntries, bucketEntries, encoded}
@@ -22,6 +22,6 @@ pub trials : (length planFBytes ≡ 44) × (encoded planF ≡ planFBytes) × (de
     × (written noPlan [] ≡ record { refusal = 1; size = 0 })
 unfolding planF planFBytes encoded header thresholdEntries bucketEntries bucketOffset formSize toLE fromLE field joinTo overTo
     filled countIn bucketsIn planIn offsetsFit lengthFits formRefusal readRefusal decoded million allowanceLimit horizonLimit le?
-    eq? allTo anyTo rule1 aboveBefore rule2 rule3 rule4 permitted bucketFits rule5 goesOnAt rule6 planRefusal damaged damages
+    eq? allTo anyTo countsFit rule1 aboveBefore rule2 rule3 rule4 permitted bucketFits rule5 goesOnAt rule6 planRefusal damaged damages
     noPlan writeRefusal written bytesAfter
 trials = (refl, refl, refl, refl, refl, refl, refl, refl, refl, refl, refl)

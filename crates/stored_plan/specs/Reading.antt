@@ -5,7 +5,7 @@ use Prim.Native.Nat.{ℕ, zero, suc, _+_}
 use lib.ListN.{length, replicate}
 use Rattle.walk.specs.Numbers.{le?}
 use Rattle.bucket_test.specs.Tests.{eq?, unless, firstRefusal, overTo}
-use Rattle.bucket_test.specs.Plan.{rule1, planRefusal}
+use Rattle.bucket_test.specs.Plan.{countsFit, planRefusal}
 use Rattle.bucket_test.specs.declared.Plan.{Plan}
 use Rattle.stored_plan.specs.Little.{field, column}
 use Rattle.stored_plan.specs.Form.{headerSize, bucketOffset, formSize}
@@ -42,9 +42,9 @@ module _ (bytes : List ℕ) where
   unfoldable pub lengthFits : Bool
   lengthFits = eq? (length bytes) (formSize countIn bucketsIn)
 
-  -- of a form with a header, before its plan is judged: 1, 7 for offsets then total length
+  -- of a form with a header, before its plan is judged: 1 for its counts, 7 for offsets then total length
   unfoldable pub formRefusal : ℕ
-  formRefusal = firstRefusal (unless (rule1 planIn) 1 ∷ unless offsetsFit 7 ∷ unless lengthFits 7 ∷ [])
+  formRefusal = firstRefusal (unless (countsFit countIn bucketsIn) 1 ∷ unless offsetsFit 7 ∷ unless lengthFits 7 ∷ [])
 
   -- 7 for a length under 16, the form's, the plan's
   unfoldable pub readRefusal : ℕ

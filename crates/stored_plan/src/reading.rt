@@ -2,7 +2,6 @@
 ghost use mathlib.Core.Path.{_≡_};
 ghost use Prim.Native.Nat.{ℕ, _+_, _*_, _≤_, _<_};
 ghost use lib.ListN.{length};
-ghost use Rattle.bucket_test.specs.Plan.{rule1};
 ghost use Rattle.stored_plan.specs.Little.{column};
 ghost use Rattle.stored_plan.specs.Form.{headerSize, formSize};
 ghost use Rattle.stored_plan.specs.Reading.{filled, countIn, bucketsIn, planIn, offsetsFit, lengthFits, formRefusal, noPlan, decoded};
@@ -10,26 +9,8 @@ use crate::Read;
 use crate::little::read_le;
 use crate::little::read_u32;
 use bucket_test::Plan;
+use bucket_test::plan_check::counts_fit;
 use bucket_test::plan_check::plan_refusal;
-
-// Rule 1 of the plan that the bytes hold.
-fn counts_fit(bytes: &[u8]) -> bool
-    requires { ⌜ headerSize ≤ length (now bytes) ⌝ }
-    ensures { λ r. ⌜ r ≡ rule1 (planIn (now (bytes .entry))) ⌝ }
-{
-    let count = read_u32(bytes, 0, 2);
-    let buckets = read_u32(bytes, 2, 2);
-    if count < 1 {
-        return false;
-    }
-    if 10 < count {
-        return false;
-    }
-    if buckets < 2 {
-        return false;
-    }
-    buckets <= 16
-}
 
 // The header's offsets are those of its counts (01, refusal 7).
 fn offsets_fit(bytes: &[u8]) -> bool
@@ -58,7 +39,7 @@ fn form_refusal(bytes: &[u8]) -> u32
     requires { ⌜ headerSize ≤ length (now bytes) ⌝ }
     ensures { λ r. ⌜ r ≡ formRefusal (now (bytes .entry)) ⌝ }
 {
-    let counts = counts_fit(bytes);
+    let counts = counts_fit(read_u32(bytes, 0, 2), read_u32(bytes, 2, 2));
     let offsets = offsets_fit(bytes);
     let size = length_fits(bytes);
     if !counts {

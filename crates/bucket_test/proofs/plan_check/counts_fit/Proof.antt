@@ -1,6 +1,6 @@
 -- Rule 1 is the two ranges.
 use borrow.Author.Needs.{needs}
-use Rattle.bucket_test.specs.Plan.{rule1}
+use Rattle.bucket_test.specs.Plan.{countsFit}
 use Rattle.bucket_test.proofs.plan_check.counts_fit.Statement.{statement}
 use Rattle.bucket_test.proofs.plan_check.counts_fit.Tie as tie
 
@@ -11,11 +11,11 @@ in-range-requires-2 : tie.Need-in-range-requires-2
 in-range-requires-2 c κs = search needs
 
 returns : tie.Need-returns
-unfolding rule1
+unfolding countsFit
 returns c = rw (← c .before .before .in-range .ensures, c .before .if1 .taken) (c .in-range2 .ensures)
 
 returns-2 : tie.Need-returns-2
-unfolding rule1
+unfolding countsFit
 returns-2 c = rw (← c .before .in-range .ensures, c .if1 .left)
 
 pub counts-fit-spec : {M : Type 1} → statement M

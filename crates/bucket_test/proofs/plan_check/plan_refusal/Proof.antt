@@ -3,20 +3,21 @@ use mathlib.Core.Path.{_≡_}
 use Prim.Native.Nat.{_≤_}
 use borrow.Author.Needs.{needs}
 use Rattle.bucket_test.specs.Tests.{firstRefusal}
-use Rattle.bucket_test.specs.Plan.{planRefusal}
+use Rattle.bucket_test.specs.Plan.{rule1, planRefusal}
 use Rattle.bucket_test.proofs.PlaceLaws.{passed, failed}
-use Rattle.bucket_test.proofs.Rules.{rule1-says, from2, from3, from4, from5, from6}
+use Rattle.bucket_test.proofs.Rules.{counts-say, from2, from3, from4, from5, from6}
 use Rattle.bucket_test.proofs.plan_check.plan_refusal.Statement.{statement}
 use Rattle.bucket_test.proofs.plan_check.plan_refusal.Tie as tie
 
 -- rule 1 keeps the places of the others inside the arrays
 counts : (c : tie.Else1) → let p = c .before .before .args .p in (p .count ≤ 10) × (p .buckets ≤ 16)
 counts c =
-    let h = rule1-says (c .before .before .args .p) .0 (passed (c .before .counts-fit .ensures) (c .if1 .left)) in
+    let p = c .before .before .args .p in
+    let h = counts-say (p .count) (p .buckets) .0 (passed (c .before .counts-fit .ensures) (c .if1 .left)) in
     (h .0 .1, h .1 .1)
 
 past1 : (c : tie.Else1) → let p = c .before .before .args .p in planRefusal p ≡ firstRefusal (from2 p)
-unfolding planRefusal
+unfolding planRefusal rule1
 past1 c = rw (passed (c .before .counts-fit .ensures) (c .if1 .left))
 
 past2 : (c : tie.Else2) → let p = c .before .before .before .before .args .p in planRefusal p ≡ firstRefusal (from3 p)
@@ -35,7 +36,7 @@ counts-fit-requires : tie.Need-counts-fit-requires
 counts-fit-requires c κs = search needs
 
 returns : tie.Need-returns
-unfolding planRefusal
+unfolding planRefusal rule1
 returns c = rw (failed (c .before .counts-fit .ensures) (c .if1 .taken))
 
 thresholds-rise-requires : tie.Need-thresholds-rise-requires

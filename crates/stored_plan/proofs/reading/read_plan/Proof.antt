@@ -3,7 +3,6 @@ use mathlib.Core.Path.{sym, ap, _∙_}
 use native.Mathlib.Omega.{arith}
 use borrow.Author.Needs.{needs}
 use Rattle.bucket_test.specs.Plan.{planRefusal}
-use Rattle.stored_plan.specs.Reading.{planIn}
 use Rattle.stored_plan.proofs.Refusals.{decoded-none, decoded-some, short, form-refused, past-form, form-says}
 use Rattle.stored_plan.proofs.reading.read_plan.Statement.{statement}
 use Rattle.stored_plan.proofs.reading.read_plan.Tie as tie
@@ -27,7 +26,6 @@ returns-2 c =
     c .refused2 .ensures ∙ decoded-some _ (r .result) n (form-refused _ (r .result) (r .ensures) (c .before .before .before .if1 .left) n)
 
 plan-in-requires : tie.Need-plan-in-requires
-unfolding planIn
 plan-in-requires c κs =
     let s = form-says (c .before .before .before .before .args .bytes .now) .0 (sym (c .before .form-refusal .ensures) ∙ c .if2 .left) in
     (s .0 .0 .1, s .0 .1 .1, s .1 .1)
