@@ -206,6 +206,11 @@ pub first-one : (r : ℕ) → firstRefusal (r ∷ []) ≡ r
 first-one zero = refl
 first-one (suc r) = refl
 
+-- a rule is judged, then another of the same number, which is not kept
+pub first-same : (b : Bool) (r : ℕ) → firstRefusal (unless b (suc r) ∷ suc r ∷ []) ≡ suc r
+first-same true r = refl
+first-same false r = refl
+
 -- there is none: the first is none, and there is none of the others
 pub none-both : {A B : Type 0} (r : ℕ) (rs : List ℕ) → (r ≡ 0) ↔ A → (firstRefusal rs ≡ 0) ↔ B → (firstRefusal (r ∷ rs) ≡ 0) ↔ (A × B)
 none-both zero rs x y = (λ e. (x .0 refl, y .0 e), λ h. y .1 (h .1))

@@ -10,6 +10,7 @@ use lib.ListN.{length, drop, getD, length-append}
 use Rattle.bucket_test.specs.Tests.{joinTo}
 use Rattle.bucket_test.specs.declared.Plan.{Plan}
 use Rattle.bucket_test.proofs.PlaceLists.{join-length}
+use Rattle.bucket_test.proofs.Rules.{Counted}
 use Rattle.stored_plan.specs.Little.{toLE, field, putAt}
 use Rattle.stored_plan.specs.Form.{pair, headerSize, bucketOffset, formSize, header, thresholdEntries, bucketEntries, encoded}
 use Rattle.stored_plan.proofs.LittleLaws.{to-length, field-left, field-right}
@@ -53,6 +54,11 @@ module _ (m n : ℕ) (xs ys : List ℕ) where
 pub header-fits : (count buckets : ℕ) → headerSize ≤ formSize count buckets
 unfolding formSize bucketOffset
 header-fits count buckets = omega arith
+
+-- the longest form is that of the most thresholds and buckets
+pub longest : (count buckets : ℕ) → Counted count buckets → formSize count buckets ≤ 264
+unfolding formSize bucketOffset
+longest count buckets h = omega arith
 
 module _ (p : Plan) where
   pub header-length : length (header p) ≡ headerSize

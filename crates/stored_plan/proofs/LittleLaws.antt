@@ -1,11 +1,11 @@
--- Little-endian numbers: what is written is read, what is read is written, and fields of joined lists (specs/Little).
-use mathlib.Core.Path.{_≡_, refl, ap, ap₂, _∙_}
+-- Little-endian numbers: what is written is read, what is read is written, and fields of joined and cut lists (specs/Little).
+use mathlib.Core.Path.{_≡_, refl, sym, ap, ap₂, _∙_}
 use mathlib.Core.List.{List, [], _∷_, _++_, append-nil}
 use mathlib.Core.Logic.{⊎-elim}
 use Prim.Native.Nat.{ℕ, zero, suc, _+_, _*_, _/_, _%_, _<_, _≤_, _^_}
 use native.Mathlib.Nat.{mod-add-div, mod-eq-of-lt, div-lt-iff-lt-mul, add-mul-div-left, div-eq-of-lt, add-mul-mod-self-left, pow-suc, pow-le-pow-right}
 use native.Mathlib.Omega.{arith}
-use lib.ListN.{length, take, drop, getD, length-take, length-drop, List·getD-eq-default}
+use lib.ListN.{length, take, drop, getD, length-take, length-drop, take-append-drop, List·getD-eq-default}
 use lib.Seq.{drop-cons, getD-take, getD-drop, length-take-le, take-append-le, drop-append-le, drop-append-add, take-at}
 use Rattle.bucket_test.proofs.PlaceLaws.{le-or-lt}
 use Rattle.stored_plan.specs.Little.{toLE, fromLE, field, Bytes}
@@ -66,7 +66,7 @@ from-cons bytes at width i h g =
     let low = getD-take width (drop at bytes) i 0 h ∙ getD-drop at bytes i 0 in
     ap fromLE (drop-cons l i 0 (omega arith) ∙ ap (λ (b : ℕ). b ∷ drop (suc i) l) low) ∙ omega arith
 
--- ---- fields of joined lists
+-- ---- fields of joined and cut lists
 
 module _ (width at : ℕ) (xs ys : List ℕ) where
   pub field-left : at + width ≤ length xs → field width at (xs ++ ys) ≡ field width at xs
@@ -77,6 +77,12 @@ module _ (width at : ℕ) (xs ys : List ℕ) where
   pub field-right : (m : ℕ) → length xs ≡ m → field width (m + at) (xs ++ ys) ≡ field width at ys
   unfolding field
   field-right m e = rw (← e, drop-append-add xs ys at)
+
+-- cut behind the field
+pub field-cut : (width at n : ℕ) (bytes : List ℕ) → at + width ≤ n → n ≤ length bytes → field width at (take n bytes) ≡ field width at bytes
+field-cut width at n bytes h l =
+    let front = field-left width at (take n bytes) (drop n bytes) (omega (arith, length-take-le n bytes l)) in
+    sym front ∙ rw take-append-drop
 
 -- behind a number of so many bytes; at one
 pub field-next : (width at m v : ℕ) (ys : List ℕ) → field width (m + at) (toLE m v ++ ys) ≡ field width at ys

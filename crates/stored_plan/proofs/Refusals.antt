@@ -1,20 +1,23 @@
 -- What is handed back, by the refusals of a reading and of a writing in their order (specs/Reading, specs/Writing).
 use mathlib.Core.Path.{_≡_, refl, sym, _∙_}
+use mathlib.Core.Bool.{Bool, true, false}
 use mathlib.Core.List.{List, [], _∷_, _++_}
 use mathlib.Core.Logic.{_↔_}
 use Prim.Native.Nat.{ℕ, zero, suc, _≤_, _<_}
+use native.Mathlib.Omega.{arith}
 use lib.ListN.{length, drop}
 use Rattle.walk.specs.Numbers.{le?}
 use Rattle.walk.proofs.Tests.{le?-complete, le?-fails}
 use Rattle.bucket_test.specs.Tests.{unless, firstRefusal}
 use Rattle.bucket_test.specs.Plan.{countsFit, planRefusal}
 use Rattle.bucket_test.specs.declared.Plan.{Plan}
-use Rattle.bucket_test.proofs.PlaceLaws.{both, le-reads, eq-reads, first-some, first-one, none-both, none-says, last-says}
+use Rattle.bucket_test.proofs.PlaceLaws.{both, le-reads, eq?-fails, eq-reads, first-some, first-one, first-same, none-both, none-says, last-says}
 use Rattle.bucket_test.proofs.Rules.{Counted, counts-say}
 use Rattle.stored_plan.specs.Little.{field}
 use Rattle.stored_plan.specs.Form.{headerSize, bucketOffset, formSize, encoded}
 use Rattle.stored_plan.specs.Reading.{countIn, bucketsIn, planIn, offsetsFit, lengthFits, formRefusal, readRefusal, noPlan, decoded}
 use Rattle.stored_plan.specs.Writing.{writeRefusal, written, bytesAfter}
+use Rattle.stored_plan.proofs.FormLaws.{longest}
 
 -- ---- a reading
 
@@ -63,6 +66,23 @@ module _ (bytes : List ℕ) where
       let from-size = unless (lengthFits bytes) 7 ∷ [] in
       none-says (countsFit count buckets) 0 (unless (offsetsFit bytes) 7 ∷ from-size) (counts-say count buckets)
       (none-says (offsetsFit bytes) 6 from-size offsets sized)
+
+  -- longer than the longest form: 1 where the counts do not fit, else 7, and no plan
+  module _ (h : 264 < length bytes) where
+    pub overlong-form : (b : Bool) → countsFit (countIn bytes) (bucketsIn bytes) ≡ b → firstRefusal (unless b 1 ∷ 7 ∷ []) ≡ formRefusal bytes
+    unfolding formRefusal lengthFits
+    overlong-form false e = rw e
+    overlong-form true e =
+        let count = countIn bytes in
+        let buckets = bucketsIn bytes in
+        let most = longest count buckets (counts-say count buckets .0 e) in
+        rw (e, eq?-fails (length bytes) (formSize count buckets) (λ z. omega arith)) (sym (first-same (offsetsFit bytes) 6))
+
+    pub overlong : record { refusal = formRefusal bytes; plan = noPlan } ≡ decoded bytes
+    overlong = decoded-some (formRefusal bytes) some (form-refused (formRefusal bytes) refl (omega arith) some)
+      where
+        some : ¬ (formRefusal bytes ≡ 0)
+        some z = let s = form-says .0 z in omega (arith, s .1 .1, longest (countIn bytes) (bucketsIn bytes) (s .0))
 
 pub record Readable (bytes : List ℕ) : Type 0 where
   pub long : headerSize ≤ length bytes

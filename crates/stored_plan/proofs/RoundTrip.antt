@@ -1,23 +1,27 @@
 -- The statements of specs/RoundTrip hold.
-use mathlib.Core.Path.{_≡_, refl, sym, _∙_}
+use mathlib.Core.Path.{_≡_, refl, sym, ap, _∙_}
 use mathlib.Core.List.{List}
-use Prim.Native.Nat.{ℕ, zero, suc}
+use mathlib.Core.Logic.{⊎-elim}
+use Prim.Native.Nat.{ℕ, zero, suc, _≤_, _<_}
 use native.Mathlib.Omega.{arith}
-use lib.ListN.{drop}
-use lib.Seq.{take-at, drop-at}
+use lib.ListN.{length, take, drop}
+use lib.Seq.{length-take-le, take-all, take-at, drop-at}
 use Rattle.bucket_test.specs.Tests.{overTo}
+use Rattle.bucket_test.specs.Plan.{countsFit}
 use Rattle.bucket_test.specs.declared.Plan.{Plan}
 use Rattle.bucket_test.specs.Ignored.{SameCounted}
+use Rattle.bucket_test.proofs.PlaceLaws.{le-or-lt}
 use Rattle.bucket_test.proofs.PlaceLists.{join-cong}
 use Rattle.bucket_test.proofs.Rules.{accepted}
 use Rattle.bucket_test.proofs.Ignored.{ignored}
-use Rattle.stored_plan.specs.Form.{bucketOffset, formSize, header, thresholdEntries, bucketEntries, encoded}
-use Rattle.stored_plan.specs.Reading.{filled, planIn, readRefusal, noPlan, decodedBy, decoded}
+use Rattle.stored_plan.specs.Form.{formSize, header, thresholdEntries, bucketEntries, encoded}
+use Rattle.stored_plan.specs.Reading.{filled, countIn, bucketsIn, planIn, readRefusal, noPlan, decodedBy, decoded}
 use Rattle.stored_plan.specs.Writing.{writeRefusal, writtenBy, bytesBy, written, bytesAfter}
-use Rattle.stored_plan.specs.RoundTrip.{PlanBack, BytesBack, FormLength, AcceptedForms, AcceptedWritings, FormWritten}
-use Rattle.stored_plan.specs.RoundTrip.{NoneOnRefusal, IgnoredInForm, Zeros}
-use Rattle.stored_plan.proofs.FormLaws.{encoded-length}
-use Rattle.stored_plan.proofs.Refusals.{readable, decoded-none, decoded-some, writable, written-none, written-some}
+use Rattle.stored_plan.specs.RoundTrip.{PlanBack, BytesBack, FormLength, CutReading, AcceptedForms, AcceptedWritings}
+use Rattle.stored_plan.specs.RoundTrip.{FormWritten, NoneOnRefusal, IgnoredInForm, Zeros}
+use Rattle.stored_plan.proofs.LittleLaws.{field-cut}
+use Rattle.stored_plan.proofs.FormLaws.{longest, encoded-length}
+use Rattle.stored_plan.proofs.Refusals.{readable, overlong-form, overlong, decoded-none, decoded-some, writable, written-none, written-some}
 use Rattle.stored_plan.proofs.ReadingLaws.{filled-past}
 use Rattle.stored_plan.proofs.PlanBack.{same, plan-back, form-read}
 use Rattle.stored_plan.proofs.BytesBack.{bytes-back}
@@ -51,10 +55,25 @@ bytes-back-holds bytes each e =
     rw (← decoded-none bytes z) (bytes-back bytes each z)
 
 pub form-length-holds : FormLength
-unfolding formSize bucketOffset
 form-length-holds p e =
     let a = accepted p .0 e in
-    (encoded-length p, omega (arith, encoded-length p, a .count-range .1, a .buckets-range .1))
+    (encoded-length p, rw (encoded-length p) (longest (p .count) (p .buckets) (a .count-range, a .buckets-range)))
+
+-- bytes that are cut behind the longest form
+module _ (n : ℕ) (h : 264 < n) (bytes : List ℕ) (l : n ≤ length bytes) where
+  fits-same : countsFit (countIn (take n bytes)) (bucketsIn (take n bytes)) ≡ countsFit (countIn bytes) (bucketsIn bytes)
+  unfolding countIn bucketsIn
+  fits-same = rw (field-cut 2 0 n bytes (omega arith) l, field-cut 2 2 n bytes (omega arith) l)
+
+  cut-same : decoded (take n bytes) ≡ decoded bytes
+  cut-same =
+      let long : 264 < length (take n bytes) = rw (length-take-le n bytes l) h in
+      let form = sym (overlong-form (take n bytes) long _ fits-same) ∙ overlong-form bytes (omega arith) _ refl in
+      sym (overlong (take n bytes) long) ∙ rw form (overlong bytes (omega arith))
+
+pub cut-reading-holds : CutReading
+cut-reading-holds bytes =
+    ⊎-elim (λ h. ap decoded (take-all 265 bytes h)) (λ h. cut-same 265 (omega arith) bytes (omega arith)) (le-or-lt (length bytes) 265)
 
 pub accepted-forms-hold : AcceptedForms
 accepted-forms-hold bytes each = (

@@ -38,6 +38,11 @@ BytesBack = (bytes : List ℕ) → Bytes bytes → decoded bytes .refusal ≡ 0 
 abbrev pub FormLength : Type 0
 FormLength = (p : Plan) → planRefusal p ≡ 0 → (length (encoded p) ≡ formSize (p .count) (p .buckets)) × (length (encoded p) ≤ 264)
 
+-- bytes and their first 265 are read alike: the program's buffer is one byte longer than the longest plan, and a longer file that fills it
+-- is refused as it would be whole
+abbrev pub CutReading : Type 0
+CutReading = (bytes : List ℕ) → decoded (take 265 bytes) ≡ decoded bytes
+
 -- reading accepts exactly the forms of accepted plans
 abbrev pub AcceptedForms : Type 0
 AcceptedForms = (bytes : List ℕ) → Bytes bytes → (decoded bytes .refusal ≡ 0) ↔ ((p : Plan) × (planRefusal p ≡ 0) × (bytes ≡ encoded p))
