@@ -17,7 +17,7 @@ use Rattle.bucket_test.proofs.Ignored.{ignored}
 use Rattle.stored_plan.specs.Form.{formSize, header, thresholdEntries, bucketEntries, encoded}
 use Rattle.stored_plan.specs.Reading.{filled, countIn, bucketsIn, planIn, readRefusal, noPlan, decodedBy, decoded}
 use Rattle.stored_plan.specs.Writing.{writeRefusal, writtenBy, bytesBy, written, bytesAfter}
-use Rattle.stored_plan.specs.RoundTrip.{PlanBack, BytesBack, FormLength, CutReading, AcceptedForms, AcceptedWritings}
+use Rattle.stored_plan.specs.RoundTrip.{PlanBack, BytesBack, FormLength, cutAt, CutReading, AcceptedForms, AcceptedWritings}
 use Rattle.stored_plan.specs.RoundTrip.{FormWritten, NoneOnRefusal, IgnoredInForm, Zeros}
 use Rattle.stored_plan.proofs.LittleLaws.{field-cut}
 use Rattle.stored_plan.proofs.FormLaws.{longest, encoded-length}
@@ -73,7 +73,7 @@ module _ (n : ℕ) (h : 264 < n) (bytes : List ℕ) (l : n ≤ length bytes) whe
 
 pub cut-reading-holds : CutReading
 cut-reading-holds bytes =
-    ⊎-elim (λ h. ap decoded (take-all 265 bytes h)) (λ h. cut-same 265 (omega arith) bytes (omega arith)) (le-or-lt (length bytes) 265)
+    ⊎-elim (λ h. ap decoded (take-all cutAt bytes h)) (λ h. cut-same cutAt (omega arith) bytes (omega arith)) (le-or-lt (length bytes) cutAt)
 
 pub accepted-forms-hold : AcceptedForms
 accepted-forms-hold bytes each = (

@@ -38,10 +38,13 @@ BytesBack = (bytes : List ℕ) → Bytes bytes → decoded bytes .refusal ≡ 0 
 abbrev pub FormLength : Type 0
 FormLength = (p : Plan) → planRefusal p ≡ 0 → (length (encoded p) ≡ formSize (p .count) (p .buckets)) × (length (encoded p) ≤ 264)
 
--- bytes and their first 265 are read alike: the program's buffer is one byte longer than the longest plan, and a longer file that fills it
--- is refused as it would be whole
+-- one byte more than the longest form has
+abbrev pub cutAt : ℕ
+cutAt = 265
+
+-- bytes and their first 265 are read alike: the program's buffer for a file may end there, since a longer one is refused alike by 1 or 7
 abbrev pub CutReading : Type 0
-CutReading = (bytes : List ℕ) → decoded (take 265 bytes) ≡ decoded bytes
+CutReading = (bytes : List ℕ) → decoded (take cutAt bytes) ≡ decoded bytes
 
 -- reading accepts exactly the forms of accepted plans
 abbrev pub AcceptedForms : Type 0
