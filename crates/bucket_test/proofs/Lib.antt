@@ -1,4 +1,4 @@
--- Tests by place, and lists made place by place.
+-- Tests by place, refusals in order, and lists made place by place.
 pub mod PlaceLaws
 pub mod PlaceLists
 -- The plan's rules in words.

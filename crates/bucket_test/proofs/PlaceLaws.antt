@@ -207,9 +207,9 @@ first-one zero = refl
 first-one (suc r) = refl
 
 -- a rule is judged, then another of the same number, which is not kept
-pub first-same : (b : Bool) (r : ℕ) → firstRefusal (unless b (suc r) ∷ suc r ∷ []) ≡ suc r
-first-same true r = refl
-first-same false r = refl
+pub same-number : (b : Bool) (r : ℕ) → firstRefusal (unless b (suc r) ∷ suc r ∷ []) ≡ suc r
+same-number true r = refl
+same-number false r = refl
 
 -- there is none: the first is none, and there is none of the others
 pub none-both : {A B : Type 0} (r : ℕ) (rs : List ℕ) → (r ≡ 0) ↔ A → (firstRefusal rs ≡ 0) ↔ B → (firstRefusal (r ∷ rs) ≡ 0) ↔ (A × B)

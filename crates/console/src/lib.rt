@@ -1,4 +1,4 @@
-// The program on open files (01, "The program").
+// The program but for its write (01, "The program").
 pub mod feeding;
 pub mod input;
 pub mod line;

@@ -1,4 +1,4 @@
-// The program's work on open files (01, "The program"): a plan, draws as they come, and one line.
+// The program but for its write (01, "The program"): a plan, draws as they come, and one line.
 
 use crate::feeding::feed;
 use crate::line::last_line;
@@ -77,7 +77,7 @@ fn play(p: Plan, input: i32, words: &mut [u64], out: &mut [u8; 64]) -> usize
     last_line(p, last, out)
 }
 
-// The program between its reads and its write. A stored plan: its refusal, or its test, which is lent the first 769 words for each threshold.
+// The program from its plan's bytes to its line: their refusal, or a test, which is lent the first 769 words for each threshold.
 pub fn serve(stored: &[u8], input: i32, words: &mut [u64], out: &mut [u8; 64]) -> usize
     ensures { λ n. ⌜ Counts n (now (out .exit)) ⌝ }
     ensures { λ n. ⌜

@@ -11,7 +11,7 @@ use Rattle.walk.proofs.Tests.{le?-complete, le?-fails}
 use Rattle.bucket_test.specs.Tests.{unless, firstRefusal}
 use Rattle.bucket_test.specs.Plan.{countsFit, planRefusal}
 use Rattle.bucket_test.specs.declared.Plan.{Plan}
-use Rattle.bucket_test.proofs.PlaceLaws.{both, le-reads, eq?-fails, eq-reads, first-some, first-one, first-same, none-both, none-says, last-says}
+use Rattle.bucket_test.proofs.PlaceLaws.{both, le-reads, eq?-fails, eq-reads, first-some, first-one, same-number, none-both, none-says, last-says}
 use Rattle.bucket_test.proofs.Rules.{Counted, counts-say}
 use Rattle.stored_plan.specs.Little.{field}
 use Rattle.stored_plan.specs.Form.{headerSize, bucketOffset, formSize, encoded}
@@ -76,7 +76,7 @@ module _ (bytes : List ℕ) where
         let count = countIn bytes in
         let buckets = bucketsIn bytes in
         let most = longest count buckets (counts-say count buckets .0 e) in
-        rw (e, eq?-fails (length bytes) (formSize count buckets) (λ z. omega arith)) (sym (first-same (offsetsFit bytes) 6))
+        rw (e, eq?-fails (length bytes) (formSize count buckets) (λ z. omega arith)) (sym (same-number (offsetsFit bytes) 6))
 
     pub overlong : record { refusal = formRefusal bytes; plan = noPlan } ≡ decoded bytes
     overlong = decoded-some (formRefusal bytes) some (form-refused (formRefusal bytes) refl (omega arith) some)

@@ -61,14 +61,14 @@ form-length-holds p e =
 
 -- bytes that are cut behind the longest form
 module _ (n : ℕ) (h : 264 < n) (bytes : List ℕ) (l : n ≤ length bytes) where
-  fits-same : countsFit (countIn (take n bytes)) (bucketsIn (take n bytes)) ≡ countsFit (countIn bytes) (bucketsIn bytes)
+  counts-cut : countsFit (countIn (take n bytes)) (bucketsIn (take n bytes)) ≡ countsFit (countIn bytes) (bucketsIn bytes)
   unfolding countIn bucketsIn
-  fits-same = rw (field-cut 2 0 n bytes (omega arith) l, field-cut 2 2 n bytes (omega arith) l)
+  counts-cut = rw (field-cut 2 0 n bytes (omega arith) l, field-cut 2 2 n bytes (omega arith) l)
 
   cut-same : decoded (take n bytes) ≡ decoded bytes
   cut-same =
       let long : 264 < length (take n bytes) = rw (length-take-le n bytes l) h in
-      let form = sym (overlong-form (take n bytes) long _ fits-same) ∙ overlong-form bytes (omega arith) _ refl in
+      let form = sym (overlong-form (take n bytes) long _ counts-cut) ∙ overlong-form bytes (omega arith) _ refl in
       sym (overlong (take n bytes) long) ∙ rw form (overlong bytes (omega arith))
 
 pub cut-reading-holds : CutReading

@@ -1,7 +1,12 @@
 -- Plan F's stored form (01, "The program"): 44 bytes; and damaged forms, with the refusals in their order (01, "Order").
-use mathlib.Core.List.{List, [], _∷_, _++_}
+use mathlib.Core.Path.{_≡_}
+use mathlib.Core.List.{List, [], _∷_, _++_, map}
 use Prim.Native.Nat.{ℕ}
-use lib.ListN.{take, set, replicate}
+use lib.ListN.{length, take, set, replicate}
+use Rattle.bucket_test.specs.Trials.{planF}
+use Rattle.stored_plan.specs.Form.{encoded}
+use Rattle.stored_plan.specs.Reading.{noPlan, decoded}
+use Rattle.stored_plan.specs.Writing.{written, bytesAfter}
 
 unfoldable pub planFBytes : List ℕ
 planFBytes =
@@ -31,3 +36,14 @@ damaged =
 
 unfoldable pub damages : List ℕ
 damages = 7 ∷ 7 ∷ 1 ∷ 1 ∷ 1 ∷ 7 ∷ 7 ∷ 7 ∷ 7 ∷ 2 ∷ 4 ∷ []
+
+-- plan F is its bytes, both ways; the refusals of damaged forms; and of a plan that is written: a byte too few, no byte more than the form, two
+-- more, and a refused plan into no bytes
+abbrev pub TrialsTheorem : Type 0
+TrialsTheorem =
+    (length planFBytes ≡ 44) × (encoded planF ≡ planFBytes) × (decoded planFBytes ≡ record { refusal = 0; plan = planF })
+    × (map (λ bytes. decoded bytes .refusal) damaged ≡ damages)
+    × (written planF (replicate 43 9) ≡ record { refusal = 12; size = 0 }) × (bytesAfter planF (replicate 43 9) ≡ replicate 43 9)
+    × (written planF (replicate 44 9) ≡ record { refusal = 0; size = 44 }) × (bytesAfter planF (replicate 44 9) ≡ planFBytes)
+    × (written planF (replicate 46 9) ≡ record { refusal = 0; size = 44 }) × (bytesAfter planF (replicate 46 9) ≡ planFBytes ++ replicate 2 9)
+    × (written noPlan [] ≡ record { refusal = 1; size = 0 })

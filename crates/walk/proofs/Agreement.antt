@@ -15,7 +15,7 @@ use Rattle.walk.specs.Spending.{IsSpending}
 use Rattle.walk.specs.Mass.{massUp}
 use Rattle.walk.specs.Walk.{Walk, below, lower, previous, cellwise, newMass, massFrom, massBelow, FitsUpper, FitsLower, upperBoundary, firstLive, start, absorbed, stepWalk, walk, firstAt, upperAt, wide?, NoWideBefore}
 use Rattle.walk.specs.Row.{Row, upper, byCount, startRow, cellsBy, newMasses, kept, dropped, cut, stepRow, rows, Sound}
-use Rattle.walk.specs.Facts.{asWalk, Same}
+use Rattle.walk.specs.Facts.{asWalk, Same, AgreementTheorem}
 use Rattle.walk.proofs.Tests.{test, Le?, le, gt, le?-complete, le?-fails, only-only, only-fails, only-holds, sum-cong, sum-le, sum-zero}
 use Rattle.walk.proofs.Lists.{sum-take-suc, sum-take-drop}
 use Rattle.walk.proofs.Rounding.{mass-none}
@@ -277,24 +277,24 @@ module _ (a : ℕ) (threshold : a ≤ million) (e : ℕ) (half : e + e < M) (n :
         under-same = ap (λ (x : ℕ). r .under + x) (rw (lower-found, new-same) (at-under (suc n) (r .first) cells fits d (drops-d .within)));
       }
 
-module _ (a : ℕ) (threshold : a ≤ million) (E : ℕ → ℕ) (spends : IsSpending E) where
-  -- the theorem of this file
-  pub same : (n : ℕ) → Same (walk a E n) (rows a E n)
-  unfolding walk rows
-  same zero = start-same
-  same (suc n) =
-      rw (same-as-walk (walk a E n) (rows a E n) (same n))
-      (step-same a threshold (E (suc n)) (spends .half (suc n)) n (rows a E n)
-      (allowed-next a threshold E spends n (rows a E n) (rows-sound a threshold E spends n)) (rows-sound a threshold E spends n .top))
+-- the theorem of this file
+pub same : AgreementTheorem
+unfolding walk rows
+same a threshold E spends zero = start-same
+same a threshold E spends (suc n) =
+    rw (same-as-walk (walk a E n) (rows a E n) (same a threshold E spends n))
+    (step-same a threshold (E (suc n)) (spends .half (suc n)) n (rows a E n)
+    (allowed-next a threshold E spends n (rows a E n) (rows-sound a threshold E spends n)) (rows-sound a threshold E spends n .top))
 
+module _ (a : ℕ) (threshold : a ≤ million) (E : ℕ → ℕ) (spends : IsSpending E) where
   -- the boundaries in both forms, and what is wide
   pub first-at : (n : ℕ) → firstAt a E n ≡ rows a E n .first
   unfolding firstAt
-  first-at n = same n .first-same
+  first-at n = same a threshold E spends n .first-same
 
   pub upper-at : (n : ℕ) → upperAt a E n ≡ upper (rows a E n)
   unfolding upperAt
-  upper-at n = same n .upper-same
+  upper-at n = same a threshold E spends n .upper-same
 
   pub in-order : (n : ℕ) → firstAt a E n ≤ upperAt a E n
   in-order n = omega (arith, first-at n, upper-at n)
@@ -302,9 +302,9 @@ module _ (a : ℕ) (threshold : a ≤ million) (E : ℕ → ℕ) (spends : IsSpe
   pub not-wide : (n : ℕ) → NoWideBefore a E n ↔ ((t : ℕ) → t < n → ¬ (length (rows a E t .masses) ≡ wide))
   unfolding NoWideBefore lower
   not-wide n = (
-    λ none t l e. says t .0 (none t l) (omega (arith, same t .first-same, same t .upper-same, e)),
-    λ none t l. says t .1 (λ e. none t l (omega (arith, same t .first-same, same t .upper-same, e))),
+    λ none t l e. says t .0 (none t l) (omega (arith, same a threshold E spends t .first-same, same a threshold E spends t .upper-same, e)),
+    λ none t l. says t .1 (λ e. none t l (omega (arith, same a threshold E spends t .first-same, same a threshold E spends t .upper-same, e))),
   )
     where
       says : (t : ℕ) → (wide? (walk a E t .upper) (below (walk a E t .first)) ≡ false) ↔ (¬ (walk a E t .upper ≡ walk a E t .first + wide))
-      says t = wide-fails (walk a E t .upper) (walk a E t .first) (omega (arith, same t .first-same, same t .upper-same))
+      says t = wide-fails (walk a E t .upper) (walk a E t .first) (omega (arith, same a threshold E spends t .first-same, same a threshold E spends t .upper-same))

@@ -10,7 +10,7 @@ use Rattle.walk.specs.Numbers.{le?, only, Smallest, Largest, sumTo, allU
 use Rattle.walk.specs.Units.{M, million, wide}
 use Rattle.walk.specs.Spending.{IsSpending}
 use Rattle.walk.specs.Walk.{Walk, lower, newMass, FitsUpper, FitsLower, stepWalk, walk, NoWideBefore}
-use Rattle.walk.specs.Row.{Row, upper, total, byCount, roundings, stepRow, Sound, SoundAt}
+use Rattle.walk.specs.Row.{Row, upper, total, byCount, roundings, stepRow, rows, Sound, SoundAt}
 use Rattle.walk.specs.Strings.{Side}
 use Rattle.walk.specs.Chance.{spent}
 
@@ -79,5 +79,10 @@ pub record WalkFacts (a : ℕ) (E : ℕ → ℕ) (n : ℕ) : Type 0 where
   pub new-off : (c : ℕ) → (c < walk a E n .first) ⊎ (walk a E n .upper < c) → newMass a (walk a E n .mass) c ≡ 0
   pub small : (c : ℕ) → walk a E n .mass c ≤ M
 
+-- the two forms agree at every step ..
+abbrev pub AgreementTheorem : Type 0
+AgreementTheorem = (a : ℕ) → a ≤ million → (E : ℕ → ℕ) → IsSpending E → (n : ℕ) → Same (walk a E n) (rows a E n)
+
+-- .. and 01's facts hold
 abbrev pub WalkTheorem : Type 0
 WalkTheorem = (a : ℕ) → a ≤ million → (E : ℕ → ℕ) → IsSpending E → (n : ℕ) → WalkFacts a E n

@@ -34,8 +34,8 @@ module _ (e n s : ℕ) (w : Walked) where
       && (allUpTo massLimit (rowOf w words .masses)
       && le? M (total (rowOf w words)))
 
--- What a step with e to spend asks. Of 769 words under an accepted plan, that refusal 11 lets through after at most 50,000 draws and that are
--- not wide, all of it holds, where e is what the next step may spend (proofs/SoundnessLaws, `steppable`).
+-- What a step with e to spend asks. All of it holds of a record that is not wide with its 769 words, let through by refusal 11 after at most
+-- 50,000 draws, where e is what the next step may spend (proofs/SoundnessLaws, `steppable`).
 pub record Steppable (a e : ℕ) (w : Walked) (words : List ℕ) : Type 0 where
   pub threshold : a ≤ million
   pub half : e + e < M

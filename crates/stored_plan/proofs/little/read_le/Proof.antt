@@ -1,4 +1,4 @@
--- V is the number of the i highest bytes.
+-- The number of the i highest bytes is `v`.
 use mathlib.Core.Path.{_≡_, sym}
 use Prim.Native.Nat.{suc, _+_, _-_, _^_, _≤_, _<_}
 use native.Mathlib.Numerals.{add-one}
