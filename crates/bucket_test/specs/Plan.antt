@@ -122,8 +122,10 @@ module _ (p : Plan) where
     pub ends-permitted : (j : ℕ) → j < p .buckets → Permitted (leftAt j) × Permitted (rightAt j)
     pub covered : Covered
 
+-- rule 6 as a test says what it says in words ..
 abbrev pub CoveredTheorem : Type 0
 CoveredTheorem = (p : Plan) → (rule6 p ≡ true) ↔ Covered p
 
+-- .. and a plan has no refusal exactly when it is accepted
 abbrev pub AcceptedTheorem : Type 0
 AcceptedTheorem = (p : Plan) → (planRefusal p ≡ 0) ↔ Accepted p
