@@ -7,14 +7,14 @@ use native.Mathlib.Omega.{arith}
 use Rattle.walk.specs.Numbers.{lt?}
 use Rattle.walk.proofs.Tests.{clash, le?-complete, le?-fails}
 use Rattle.walk.proofs.Searches.{search-cong}
-use Rattle.bucket_test.specs.Tests.{eq?, largestTo, smallestTo}
-use Rattle.bucket_test.specs.Plan.{leftAt, rightAt}
+use Rattle.plan.specs.Places.{eq?, largestTo, smallestTo}
+use Rattle.plan.specs.Plan.{leftAt, rightAt}
 use Rattle.bucket_test.specs.Turn.{recordAt, wideOpen}
 use Rattle.bucket_test.specs.Answers.{lowOf, highOf, anyWide, contains, firstBucket, firstThatFits, answerBy, answerOf, isEnding, refusalOf}
 use Rattle.bucket_test.specs.declared.State.{State}
-use Rattle.bucket_test.specs.declared.Plan.{Plan}
+use Rattle.plan.specs.declared.Plan.{Plan}
 use Rattle.bucket_test.specs.declared.Answer.the-variants.{Open, Decided, Crossed, Wide, Spent}
-use Rattle.bucket_test.proofs.PlaceLaws.{eq?-complete, eq?-fails, eq?-false, none-reads}
+use Rattle.plan.proofs.PlaceLaws.{eq?-complete, eq?-fails, eq?-false, none-reads}
 
 -- one place more
 pub largest-more : (i : ℕ) (f : ℕ → ℕ) (least x : ℕ) → x ≡ largestTo i f least → max x (f i) ≡ largestTo (i + 1) f least

@@ -8,15 +8,15 @@ use Rattle.walk.specs.Units.{million}
 use Rattle.walk.proofs.Tests.{test, Le?, le, gt}
 use Rattle.walk.proofs.Searches.{search-only}
 use Rattle.walk.proofs.RecordLaws.{start-record as walk-start, start-not-wide}
-use Rattle.bucket_test.specs.Tests.{largestTo, smallestTo}
-use Rattle.bucket_test.specs.Plan.{leftAt, rightAt, Accepted}
+use Rattle.plan.specs.Places.{largestTo, smallestTo}
+use Rattle.plan.specs.Plan.{leftAt, rightAt, Accepted}
 use Rattle.bucket_test.specs.Turn.{startRecord, noRecord, recordAt, wideOpen}
 use Rattle.bucket_test.specs.Answers.{lowOf, highOf, anyWide, contains, firstBucket, answerOf}
 use Rattle.bucket_test.specs.Draw.{startState}
-use Rattle.bucket_test.specs.declared.Plan.{Plan}
+use Rattle.plan.specs.declared.Plan.{Plan}
 use Rattle.bucket_test.specs.declared.Answer.the-variants.{Open}
-use Rattle.bucket_test.proofs.PlaceLaws.{none-reads}
-use Rattle.bucket_test.proofs.Rules.{permitted-le}
+use Rattle.plan.proofs.PlaceLaws.{none-reads}
+use Rattle.plan.proofs.AcceptedLaws.{permitted-le}
 use Rattle.bucket_test.proofs.AnsweringLaws.{open-yet}
 
 largest-none : (n : ℕ) (f : ℕ → ℕ) → ((i : ℕ) → i < n → f i ≡ 0) → largestTo n f 0 ≡ 0

@@ -14,22 +14,22 @@ use Rattle.walk.proofs.Tests.{test, Le?, le, gt, clash}
 use Rattle.walk.proofs.Chances.{meets-says, allowed-always, chances}
 use Rattle.walk.proofs.WalkFacts.{walk-facts}
 use Rattle.walk.proofs.RecordLaws.{mark-nil, narrow-start}
-use Rattle.bucket_test.specs.Tests.{unless, firstRefusal}
-use Rattle.bucket_test.specs.Plan.{thresholdAt, spendingOf, planRefusal, Accepted}
+use Rattle.plan.specs.Places.{unless, firstRefusal}
+use Rattle.plan.specs.Plan.{thresholdAt, spendingOf, planRefusal, Accepted}
 use Rattle.bucket_test.specs.Words.{partAt, Stands}
 use Rattle.bucket_test.specs.Turn.{recordAt}
 use Rattle.bucket_test.specs.Answers.{answerOf, isEnding, refusalOf}
 use Rattle.bucket_test.specs.Draw.{Outcome, beginRefusal, begun, drawRefusal, nextState, drawnBy, drawn}
 use Rattle.bucket_test.specs.Carried.{carried, hasEnded, takenBy, taken}
 use Rattle.bucket_test.specs.Demand3.{Marks, AnswersDraw, Answered, Demand3, Demand3Theorem}
-use Rattle.bucket_test.proofs.PlaceLists.{words-say}
-use Rattle.bucket_test.proofs.Rules.{threshold-ok, spends, accepted}
+use Rattle.plan.proofs.AcceptedLaws.{threshold-ok, spends, accepted}
 use Rattle.bucket_test.proofs.AnsweringLaws.{rule-answers}
 use Rattle.bucket_test.proofs.Beginning.{start-open}
 use Rattle.bucket_test.proofs.OneThreshold.{marks-say, stands-at}
 use Rattle.bucket_test.proofs.Invariant.{markAt, recordAfter, partAfter, stateFor, wordsFor, History, start-state, start-words, record-at, mark-at, part-at, size-at, words-fit, state-sound, next-state, next-words, history-next}
 use Rattle.bucket_test.specs.declared.State.{State}
-use Rattle.bucket_test.specs.declared.Plan.{Plan}
+use Rattle.plan.specs.declared.Plan.{Plan}
+use Rattle.bucket_test.proofs.PartLaws.{words-say}
 
 -- a refused draw leaves state and words as they are
 stays-by : (r : ℕ) (p : Plan) (s : State) (ws : List ℕ) (d : ℕ) → ¬ (refusalOf (drawnBy r p s ws d .answer) ≡ 0)

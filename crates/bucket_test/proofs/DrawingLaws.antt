@@ -17,19 +17,19 @@ use Rattle.walk.specs.declared.Mark.{Mark}
 use Rattle.walk.specs.declared.Mark.the-variants.{Open, Above, AtMost}
 use Rattle.walk.proofs.Tests.{and-true, le?-sound, le?-complete, le?-fails}
 use Rattle.walk.proofs.SoundnessLaws.{steppable}
-use Rattle.bucket_test.specs.Tests.{overTo, joinTo}
-use Rattle.bucket_test.specs.Plan.{thresholdAt, spendingOf, planRefusal, Accepted}
+use Rattle.plan.specs.Places.{overTo, joinTo}
+use Rattle.plan.specs.Plan.{thresholdAt, spendingOf, planRefusal, Accepted}
 use Rattle.bucket_test.specs.Words.{partAt, wordsFit}
 use Rattle.bucket_test.specs.Turn.{recordAt, MayTurn, recordSound, recordTurn, partTurn, soundAt, MayTurnAt}
 use Rattle.bucket_test.specs.Answers.{lowOf, highOf, answerOf, isEnding, goesOn}
 use Rattle.bucket_test.specs.Draw.{Outcome, drawnOf, outcomeOf, startState, startWords, noState, beginRefusal, begunBy, begun, stateSound, drawRefusal, nextState, nextWords, drawnBy, drawn, report, drawnOn}
 use Rattle.bucket_test.specs.declared.Threshold.{Threshold}
 use Rattle.bucket_test.specs.declared.State.{State}
-use Rattle.bucket_test.specs.declared.Plan.{Plan}
+use Rattle.plan.specs.declared.Plan.{Plan}
 use Rattle.bucket_test.specs.declared.Drawn.{Drawn}
 use Rattle.bucket_test.specs.declared.Answer.the-variants.{Refused}
-use Rattle.bucket_test.proofs.PlaceLaws.{eq?-fails, all-reads}
-use Rattle.bucket_test.proofs.Rules.{accepted, threshold-ok, spends}
+use Rattle.plan.proofs.PlaceLaws.{eq?-fails, all-reads}
+use Rattle.plan.proofs.AcceptedLaws.{accepted, threshold-ok, spends}
 use Rattle.bucket_test.proofs.AnsweringLaws.{not-over, thin-at}
 use Rattle.bucket_test.proofs.TurningLaws.{part-length}
 

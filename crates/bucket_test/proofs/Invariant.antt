@@ -15,20 +15,21 @@ use Rattle.walk.specs.declared.Mark.the-variants.{Open}
 use Rattle.walk.proofs.Tests.{test, Le?, le, gt, le?-complete}
 use Rattle.walk.proofs.SoundnessLaws.{narrow-record}
 use Rattle.walk.proofs.RecordLaws.{markOf, mark-nil, mark-cons}
-use Rattle.bucket_test.specs.Tests.{overTo, joinTo}
-use Rattle.bucket_test.specs.Plan.{thresholdAt, spendingOf, Accepted}
+use Rattle.plan.specs.Places.{overTo, joinTo}
+use Rattle.plan.specs.Plan.{thresholdAt, spendingOf, Accepted}
 use Rattle.bucket_test.specs.Words.{partAt, wordsFit}
 use Rattle.bucket_test.specs.Turn.{startRecord, noRecord, recordAt, recordTurn, partTurn, soundAt}
 use Rattle.bucket_test.specs.Answers.{answerOf, isEnding}
 use Rattle.bucket_test.specs.Draw.{startState, startWords, stateSound, nextState, nextWords}
-use Rattle.bucket_test.proofs.PlaceLaws.{all-reads}
-use Rattle.bucket_test.proofs.PlaceLists.{over-get, over-over, over-same, words-say, join-cong, join-length, join-part}
-use Rattle.bucket_test.proofs.Rules.{threshold-ok, spends}
+use Rattle.plan.proofs.PlaceLaws.{all-reads}
+use Rattle.plan.proofs.PlaceLists.{over-get, over-over, over-same, join-cong, join-length}
+use Rattle.plan.proofs.AcceptedLaws.{threshold-ok, spends}
 use Rattle.bucket_test.proofs.AnsweringLaws.{not-over, thin-at}
 use Rattle.bucket_test.proofs.OneThreshold.{recordFor, partFor, mark-for, start-for, turn-record, turn-part, part-size, record-sound, narrow-on}
 use Rattle.bucket_test.specs.declared.Threshold.{Threshold}
 use Rattle.bucket_test.specs.declared.State.{State}
-use Rattle.bucket_test.specs.declared.Plan.{Plan}
+use Rattle.plan.specs.declared.Plan.{Plan}
+use Rattle.bucket_test.proofs.PartLaws.{words-say, join-part}
 
 ones-le : (s : Draws) → ones s ≤ length s
 ones-le [] = omega arith

@@ -1,9 +1,5 @@
--- Tests by place, refusals in order, and lists made place by place.
-pub mod PlaceLaws
-pub mod PlaceLists
--- The plan's rules in words.
-mod Cover
-pub mod Rules
+-- The parts of the words, and places past a count.
+mod PartLaws
 pub mod Ignored
 -- A carried test: one threshold, the whole state, the beginning, demand 3, runs of draws.
 mod OneThreshold

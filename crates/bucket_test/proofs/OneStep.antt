@@ -20,8 +20,8 @@ use Rattle.walk.specs.declared.Walked.{Walked}
 use Rattle.walk.proofs.WalkFacts.{step-facts}
 use Rattle.walk.proofs.SoundnessLaws.{padded-length, checked, narrow}
 use Rattle.walk.proofs.RecordLaws.{judged-same, judged-on, judged-open}
-use Rattle.bucket_test.specs.Tests.{unless, firstRefusal}
-use Rattle.bucket_test.specs.Plan.{thresholdAt, spendingOf, planRefusal, Accepted}
+use Rattle.plan.specs.Places.{unless, firstRefusal}
+use Rattle.plan.specs.Plan.{thresholdAt, spendingOf, planRefusal, Accepted}
 use Rattle.bucket_test.specs.Words.{partAt, wordsFit, Stands}
 use Rattle.bucket_test.specs.Turn.{noRecord, recordAt, marked, walkedOn, turnRecord, turnPart}
 use Rattle.bucket_test.specs.Answers.{answerOf, isEnding}
@@ -29,10 +29,11 @@ use Rattle.bucket_test.specs.Draw.{stateSound, drawRefusal, nextState, n
 use Rattle.bucket_test.specs.OneStep.{MarkedAt, steppedAt, OneStep, OneStepTheorem}
 use Rattle.bucket_test.specs.declared.Threshold.{Threshold}
 use Rattle.bucket_test.specs.declared.State.{State}
-use Rattle.bucket_test.specs.declared.Plan.{Plan}
-use Rattle.bucket_test.proofs.PlaceLaws.{le-or-lt}
-use Rattle.bucket_test.proofs.PlaceLists.{over-length, over-get, over-drop, words-say, join-length, join-part}
-use Rattle.bucket_test.proofs.Rules.{accepted, threshold-ok, spends}
+use Rattle.plan.specs.declared.Plan.{Plan}
+use Rattle.plan.proofs.PlaceLaws.{le-or-lt}
+use Rattle.plan.proofs.PlaceLists.{over-length, over-get, over-drop, join-length}
+use Rattle.plan.proofs.AcceptedLaws.{accepted, threshold-ok, spends}
+use Rattle.bucket_test.proofs.PartLaws.{words-say, join-part}
 use Rattle.bucket_test.proofs.TurningLaws.{part-length, stands}
 use Rattle.bucket_test.proofs.DrawingLaws.{sound-at, drawn-by}
 use Rattle.bucket_test.proofs.AnsweringLaws.{not-over, thin-at}

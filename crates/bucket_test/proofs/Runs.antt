@@ -11,7 +11,7 @@ use Rattle.bucket_test.specs.Answers.{goesOn}
 use Rattle.bucket_test.specs.Draw.{Outcome, whileOpen, drawn, drawnOn}
 use Rattle.bucket_test.specs.Carried.{carried, after, RunsTo, RunTheorem}
 use Rattle.bucket_test.proofs.DrawingLaws.{run-stops}
-use Rattle.bucket_test.specs.declared.Plan.{Plan}
+use Rattle.plan.specs.declared.Plan.{Plan}
 use Rattle.bucket_test.specs.declared.Answer.{Answer}
 use Rattle.bucket_test.specs.declared.Answer.the-variants.{Open, Decided, Crossed, Wide, Spent, Refused}
 

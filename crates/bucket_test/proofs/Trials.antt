@@ -5,11 +5,12 @@ use Rattle.walk.specs.Units.{M, million, massLimit, allowanceLimit, horizonLimi
 use Rattle.walk.specs.Spending.{spending}
 use Rattle.walk.specs.Mass.{rounds, roundUp, reaching, massUp}
 use Rattle.walk.specs.Walk.{below, lower, massFrom, massBelow, upperBoundary, firstLive, start, absorbed, stepWalk, walk}
-use Rattle.bucket_test.specs.Tests.{eq?, allTo, anyTo, largestTo, smallestTo}
-use Rattle.bucket_test.specs.Plan.{countsFit, spendingOf, rule1, aboveBefore, rule2, rule3, rule4, permitted, bucketFits, rule5, goesOnAt, rule6, planRefusal}
+use Rattle.plan.specs.Places.{eq?, allTo, anyTo, largestTo, smallestTo}
+use Rattle.plan.specs.Plan.{countsFit, spendingOf, rule1, aboveBefore, rule2, rule3, rule4, permitted, bucketFits, rule5, goesOnAt, rule6, planRefusal}
 use Rattle.bucket_test.specs.Turn.{startRecord}
 use Rattle.bucket_test.specs.Answers.{lowOf, highOf, answerBy, answerOf}
-use Rattle.bucket_test.specs.Trials.{planF, computed, printed, TrialsTheorem}
+use Rattle.plan.specs.PlanF.{planF}
+use Rattle.bucket_test.specs.Trials.{computed, printed, TrialsTheorem}
 
 pub trials : TrialsTheorem
 unfolding computed printed planF spendingOf spending walk start stepWalk absorbed upperBoundary firstLive massFrom massBelow searchUp searchDown

@@ -13,11 +13,11 @@ use Rattle.walk.specs.Row.{Row}
 use Rattle.walk.specs.Record.{recordOf, padded}
 use Rattle.walk.specs.Facts.{Same}
 use Rattle.walk.proofs.RecordLaws.{padded-word, record-same, word-same, fits-same}
-use Rattle.bucket_test.specs.Tests.{overTo, joinTo}
+use Rattle.plan.specs.Places.{overTo, joinTo}
 use Rattle.bucket_test.specs.Words.{partAt, Stands}
 use Rattle.bucket_test.specs.Turn.{turnRecord, turnPart, MayTurn}
 use Rattle.bucket_test.specs.declared.Threshold.{Threshold}
-use Rattle.bucket_test.proofs.PlaceLists.{over-now, over-put}
+use Rattle.plan.proofs.PlaceLists.{over-now, over-put}
 
 -- ---- records: the first i have had their turn
 

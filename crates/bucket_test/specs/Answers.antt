@@ -6,11 +6,11 @@ use Prim.Native.Nat.{ℕ, suc}
 use Rattle.walk.specs.Numbers.{le?, lt?, only, choose, searchUp}
 use Rattle.walk.specs.Units.{million}
 use Rattle.walk.specs.Strings.{Upper, Lower, isOn}
-use Rattle.bucket_test.specs.Tests.{eq?, anyTo, largestTo, smallestTo}
-use Rattle.bucket_test.specs.Plan.{thresholdAt, leftAt, rightAt}
+use Rattle.plan.specs.Places.{eq?, anyTo, largestTo, smallestTo}
+use Rattle.plan.specs.Plan.{thresholdAt, leftAt, rightAt}
 use Rattle.bucket_test.specs.Turn.{recordAt, wideOpen}
 use Rattle.bucket_test.specs.declared.State.{State}
-use Rattle.bucket_test.specs.declared.Plan.{Plan}
+use Rattle.plan.specs.declared.Plan.{Plan}
 use Rattle.bucket_test.specs.declared.Report.{Report}
 use Rattle.bucket_test.specs.declared.Answer.{Answer}
 use Rattle.bucket_test.specs.declared.Answer.the-variants.{Open, Decided, Crossed, Wide, Spent, Refused}

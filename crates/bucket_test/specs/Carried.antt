@@ -9,7 +9,7 @@ use Rattle.walk.specs.Numbers.{le?}
 use Rattle.walk.specs.Strings.{Draws}
 use Rattle.bucket_test.specs.Answers.{isEnding, refusalOf}
 use Rattle.bucket_test.specs.Draw.{Outcome, begun, drawn, drawnOn}
-use Rattle.bucket_test.specs.declared.Plan.{Plan}
+use Rattle.plan.specs.declared.Plan.{Plan}
 use Rattle.bucket_test.specs.declared.Answer.the-variants.{Open}
 
 -- what the last call handed back, after the draws ds from a beginning on these words

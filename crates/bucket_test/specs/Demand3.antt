@@ -12,13 +12,13 @@ use Rattle.walk.specs.Facts.{WalkFacts}
 use Rattle.walk.specs.Chance.{Meets, meets?, meeting, spent, Bounds}
 use Rattle.walk.specs.declared.Mark.{Mark}
 use Rattle.walk.specs.declared.Mark.the-variants.{Open}
-use Rattle.bucket_test.specs.Plan.{thresholdAt, spendingOf, Accepted}
+use Rattle.plan.specs.Plan.{thresholdAt, spendingOf, Accepted}
 use Rattle.bucket_test.specs.Words.{partAt, Stands}
 use Rattle.bucket_test.specs.Turn.{recordAt}
 use Rattle.bucket_test.specs.Answers.{answerOf, refusalOf}
 use Rattle.bucket_test.specs.Draw.{Outcome}
 use Rattle.bucket_test.specs.Carried.{carried, hasEnded, taken}
-use Rattle.bucket_test.specs.declared.Plan.{Plan}
+use Rattle.plan.specs.declared.Plan.{Plan}
 use Rattle.bucket_test.specs.declared.Answer.the-variants.{Open as OpenAnswer}
 
 -- ---- one threshold a with the spending E, after the draws s

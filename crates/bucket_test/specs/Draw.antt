@@ -6,14 +6,14 @@ use lib.ListN.{replicate}
 use Rattle.walk.specs.Numbers.{le?}
 use Rattle.walk.specs.Row.{startRow}
 use Rattle.walk.specs.Record.{padded}
-use Rattle.bucket_test.specs.Tests.{allTo, unless, firstRefusal, overTo, joinTo}
-use Rattle.bucket_test.specs.Plan.{planRefusal}
+use Rattle.plan.specs.Places.{allTo, unless, firstRefusal, overTo, joinTo}
+use Rattle.plan.specs.Plan.{planRefusal}
 use Rattle.bucket_test.specs.Words.{wordsFit}
 use Rattle.bucket_test.specs.Turn.{startRecord, noRecord, recordAt, recordTurn, partTurn, soundAt}
 use Rattle.bucket_test.specs.Answers.{lowOf, highOf, answerOf, isEnding, goesOn}
 use Rattle.bucket_test.specs.declared.Threshold.{Threshold}
 use Rattle.bucket_test.specs.declared.State.{State}
-use Rattle.bucket_test.specs.declared.Plan.{Plan}
+use Rattle.plan.specs.declared.Plan.{Plan}
 use Rattle.bucket_test.specs.declared.Drawn.{Drawn}
 use Rattle.bucket_test.specs.declared.Report.{Report}
 use Rattle.bucket_test.specs.declared.Answer.{Answer}

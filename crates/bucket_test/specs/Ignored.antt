@@ -1,19 +1,13 @@
 -- Places past a count are ignored (01, "The plan"): what is claimed of two plans that differ in such places only. Definitions only.
 use mathlib.Core.Path.{_≡_}
 use mathlib.Core.List.{List}
-use Prim.Native.Nat.{ℕ, _<_}
-use Rattle.bucket_test.specs.Plan.{thresholdAt, allowanceAt, leftAt, rightAt, planRefusal}
+use Prim.Native.Nat.{ℕ}
+use Rattle.plan.specs.Plan.{planRefusal}
+use Rattle.plan.specs.SameCounted.{SameCounted}
 use Rattle.bucket_test.specs.Answers.{answerOf}
 use Rattle.bucket_test.specs.Draw.{Outcome, begun, drawn, report, drawnOn}
 use Rattle.bucket_test.specs.declared.State.{State}
-use Rattle.bucket_test.specs.declared.Plan.{Plan}
-
--- q is p in its numbers and in each counted place
-pub record SameCounted (p q : Plan) : Type 0 where
-  pub counts : (q .count ≡ p .count) × (q .buckets ≡ p .buckets)
-  pub times : (q .delay ≡ p .delay) × (q .horizon ≡ p .horizon)
-  pub entries : (i : ℕ) → i < p .count → (thresholdAt q i ≡ thresholdAt p i) × (allowanceAt q i ≡ allowanceAt p i)
-  pub ends : (j : ℕ) → j < p .buckets → (leftAt q j ≡ leftAt p j) × (rightAt q j ≡ rightAt p j)
+use Rattle.plan.specs.declared.Plan.{Plan}
 
 -- q stands for p in the rules, in the answer to a state, and in every call
 pub record SameTest (p q : Plan) : Type 0 where

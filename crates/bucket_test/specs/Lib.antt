@@ -1,6 +1,4 @@
 -- What a reader of this crate has to believe, in the order of the paper (01). Definitions only; the laws are in proofs/.
-pub mod Tests
-pub mod Plan
 pub mod Words
 pub mod Turn
 pub mod Answers

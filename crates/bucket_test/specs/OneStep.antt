@@ -11,13 +11,13 @@ use Rattle.walk.specs.Record.{rowOf}
 use Rattle.walk.specs.Facts.{asWalk}
 use Rattle.walk.specs.declared.Mark.{Mark}
 use Rattle.walk.specs.declared.Mark.the-variants.{Open}
-use Rattle.bucket_test.specs.Plan.{thresholdAt, spendingOf}
+use Rattle.plan.specs.Plan.{thresholdAt, spendingOf}
 use Rattle.bucket_test.specs.Words.{partAt, Stands}
 use Rattle.bucket_test.specs.Turn.{recordAt}
 use Rattle.bucket_test.specs.Answers.{answerOf}
 use Rattle.bucket_test.specs.Draw.{Outcome, drawRefusal, drawn}
 use Rattle.bucket_test.specs.declared.State.{State}
-use Rattle.bucket_test.specs.declared.Plan.{Plan}
+use Rattle.plan.specs.declared.Plan.{Plan}
 
 -- the mark m is that of S ones against the boundaries of w at step n: above where S is at or over the upper one, at most where it is at or
 -- under the lower one, else open

@@ -10,25 +10,14 @@ use Rattle.walk.specs.Spending.{spending}
 use Rattle.walk.specs.Walk.{walk, lower}
 use Rattle.walk.specs.declared.Mark.{Mark}
 use Rattle.walk.specs.declared.Mark.the-variants.{Open, Above, AtMost}
-use Rattle.bucket_test.specs.Plan.{thresholdAt, spendingOf, planRefusal}
+use Rattle.plan.specs.Plan.{thresholdAt, spendingOf, planRefusal}
+use Rattle.plan.specs.PlanF.{planF}
 use Rattle.bucket_test.specs.Turn.{startRecord}
 use Rattle.bucket_test.specs.Answers.{lowOf, highOf, answerOf, wordOf}
 use Rattle.bucket_test.specs.declared.State.{State}
-use Rattle.bucket_test.specs.declared.Plan.{Plan}
+use Rattle.plan.specs.declared.Plan.{Plan}
 
--- plan F, and its spending; the spending of P5
-unfoldable pub planF : Plan
-planF = record {
-  count = 1;
-  buckets = 2;
-  delay = 1000;
-  horizon = 200;
-  thresholds = 50000 ∷ replicate 9 0;
-  allowances = 4398046511 ∷ replicate 9 0;
-  left = 0 ∷ 50000 ∷ replicate 14 0;
-  right = 50000 ∷ 1000000 ∷ replicate 14 0;
-}
-
+-- the spending and the threshold of plan F; the spending of P5
 abbrev spendingF : ℕ → ℕ
 spendingF = spendingOf planF 0
 

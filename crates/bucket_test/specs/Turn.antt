@@ -13,10 +13,10 @@ use Rattle.walk.specs.Soundness.{isSound, Steppable}
 use Rattle.walk.specs.declared.Mark.{Mark}
 use Rattle.walk.specs.declared.Mark.the-variants.{Open, Above, AtMost}
 use Rattle.walk.specs.declared.Walked.{Walked}
-use Rattle.bucket_test.specs.Tests.{within}
-use Rattle.bucket_test.specs.Plan.{thresholdAt, spendingOf}
+use Rattle.plan.specs.Places.{within}
+use Rattle.plan.specs.Plan.{thresholdAt, spendingOf}
 use Rattle.bucket_test.specs.Words.{partAt}
-use Rattle.bucket_test.specs.declared.Plan.{Plan}
+use Rattle.plan.specs.declared.Plan.{Plan}
 use Rattle.bucket_test.specs.declared.Threshold.{Threshold}
 use Rattle.bucket_test.specs.declared.State.{State}
 

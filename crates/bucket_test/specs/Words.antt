@@ -7,8 +7,8 @@ use lib.ListN.{length, take, drop, getD}
 use Rattle.walk.specs.Units.{wide}
 use Rattle.walk.specs.Walk.{Walk, lower}
 use Rattle.walk.specs.declared.Walked.{Walked}
-use Rattle.bucket_test.specs.Tests.{eq?}
-use Rattle.bucket_test.specs.declared.Plan.{Plan}
+use Rattle.plan.specs.Places.{eq?}
+use Rattle.plan.specs.declared.Plan.{Plan}
 
 -- the part of the threshold at place i: 769 words from 769 × i on
 unfoldable pub partAt : ℕ → List ℕ → List ℕ

@@ -1,7 +1,7 @@
 // Interval and answer of a state (01, "Taking a draw").
 
 use crate::Answer;
-use crate::Plan;
+use plan::Plan;
 use crate::State;
 use crate::Threshold;
 use walk::Mark;

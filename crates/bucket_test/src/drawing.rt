@@ -2,13 +2,13 @@
 
 use crate::Answer;
 use crate::Drawn;
-use crate::Plan;
+use plan::Plan;
 use crate::Report;
 use crate::State;
 use crate::answering::answer_of;
 use crate::answering::interval_of;
 use crate::judging::state_sound;
-use crate::plan_check::plan_refusal;
+use plan::rules::plan_refusal;
 use crate::starting::open_state;
 use crate::starting::start_parts;
 use crate::turning::turn_all;
@@ -17,7 +17,7 @@ ghost use mathlib.Core.Bool.{true, false};
 ghost use Prim.Native.Nat.{_*_, _≤_};
 ghost use lib.ListN.{length};
 ghost use Rattle.walk.specs.Units.{wide};
-ghost use Rattle.bucket_test.specs.Plan.{planRefusal};
+ghost use Rattle.plan.specs.Plan.{planRefusal};
 ghost use Rattle.bucket_test.specs.Answers.{answerOf, isEnding, goesOn};
 ghost use Rattle.bucket_test.specs.Draw.{drawnOf, outcomeOf, begun, stateSound, nextState, nextWords, drawn, report, drawnOn};
 

@@ -1,9 +1,9 @@
 // Whether a state that was handed in may take a draw (01, refusal 11).
 
-use crate::Plan;
+use plan::Plan;
 use crate::State;
 use crate::Threshold;
-use crate::plan_check::in_range;
+use plan::rules::in_range;
 use walk::Mark;
 use walk::soundness::is_sound;
 use walk::spending::spending_at;
@@ -11,8 +11,8 @@ ghost use mathlib.Core.Path.{_≡_};
 ghost use Prim.Native.Nat.{_*_, _≤_};
 ghost use lib.ListN.{length};
 ghost use Rattle.walk.specs.Units.{wide, horizonLimit};
-ghost use Rattle.bucket_test.specs.Tests.{allTo};
-ghost use Rattle.bucket_test.specs.Plan.{planRefusal};
+ghost use Rattle.plan.specs.Places.{allTo};
+ghost use Rattle.plan.specs.Plan.{planRefusal};
 ghost use Rattle.bucket_test.specs.Turn.{recordAt, recordSound, soundAt};
 ghost use Rattle.bucket_test.specs.Draw.{stateSound};
 

@@ -10,7 +10,7 @@ ghost use lib.ListN.{length};
 ghost use Rattle.walk.specs.Units.{wide};
 ghost use Rattle.walk.specs.Row.{startRow};
 ghost use Rattle.walk.specs.Record.{padded};
-ghost use Rattle.bucket_test.specs.Tests.{joinTo};
+ghost use Rattle.plan.specs.Places.{joinTo};
 ghost use Rattle.bucket_test.specs.Turn.{openRecord};
 ghost use Rattle.bucket_test.specs.Draw.{tenOf};
 

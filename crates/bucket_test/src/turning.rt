@@ -1,6 +1,6 @@
 // The turns of the thresholds in a draw (01, "Taking a draw").
 
-use crate::Plan;
+use plan::Plan;
 use crate::Threshold;
 use walk::Mark;
 use walk::Walked;
@@ -10,8 +10,8 @@ ghost use mathlib.Core.Path.{_≡_};
 ghost use Prim.Native.Nat.{ℕ, _*_, _≤_, _<_};
 ghost use lib.ListN.{length, getD};
 ghost use Rattle.walk.specs.Units.{wide, horizonLimit};
-ghost use Rattle.bucket_test.specs.Tests.{overTo, joinTo};
-ghost use Rattle.bucket_test.specs.Plan.{planRefusal};
+ghost use Rattle.plan.specs.Places.{overTo, joinTo};
+ghost use Rattle.plan.specs.Plan.{planRefusal};
 ghost use Rattle.bucket_test.specs.Turn.{noRecord, marked, turnRecord, turnPart, MayTurn, recordTurn, partTurn, MayTurnAt};
 
 // The mark after step n: S at or over the upper boundary, at or under the lower one, or neither. Of any boundaries: S is compared with

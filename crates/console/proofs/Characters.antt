@@ -7,7 +7,7 @@ use native.Mathlib.Omega.{arith}
 use lib.ListN.{length, take, drop, getD, set, length-set, take-append-drop, drop-of-length-le}
 use lib.Seq.{drop-cons, take-suc-set, drop-set-lt, drop-drop, length-take-le}
 use Rattle.io.specs.Counts.{Counts}
-use Rattle.bucket_test.proofs.PlaceLaws.{eq?-complete, eq?-fails}
+use Rattle.plan.proofs.PlaceLaws.{eq?-complete, eq?-fails}
 use Rattle.console.specs.Input.{drawOf, drawsOf}
 
 -- i characters are turned into the draws before at; behind these the chunk is as it was

@@ -5,10 +5,10 @@ use mathlib.Core.List.{List, [], _∷_, _++_}
 use Prim.Native.Nat.{ℕ}
 use lib.ListN.{length, take, drop}
 use lib.Seq.{take-append-seam}
-use Rattle.bucket_test.specs.Tests.{eq?}
+use Rattle.plan.specs.Places.{eq?}
 use Rattle.bucket_test.specs.Draw.{Outcome, drawnOf, outcomeOf, drawnOn}
 use Rattle.bucket_test.proofs.Runs.{run-append}
-use Rattle.bucket_test.specs.declared.Plan.{Plan}
+use Rattle.plan.specs.declared.Plan.{Plan}
 use Rattle.bucket_test.specs.declared.Drawn.{Drawn}
 use Rattle.console.specs.Input.{drawOf, drawsOf}
 use Rattle.console.specs.Program.{Taken}

@@ -7,7 +7,7 @@ use lib.ListN.{length, take, drop}
 use Rattle.walk.specs.Units.{wide}
 use Rattle.walk.proofs.Tests.{le?-complete, le?-fails}
 use Rattle.bucket_test.specs.Draw.{Outcome, drawnOf, outcomeOf, begun, drawnOn}
-use Rattle.bucket_test.specs.declared.Plan.{Plan}
+use Rattle.plan.specs.declared.Plan.{Plan}
 use Rattle.bucket_test.specs.declared.Drawn.{Drawn}
 use Rattle.stored_plan.specs.Reading.{decoded}
 use Rattle.stored_plan.specs.declared.Read.{Read}

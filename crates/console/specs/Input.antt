@@ -3,7 +3,7 @@ use mathlib.Core.Bool.{cond}
 use mathlib.Core.List.{List, [], _∷_}
 use Prim.Native.Nat.{ℕ}
 use Rattle.walk.specs.Numbers.{choose}
-use Rattle.bucket_test.specs.Tests.{eq?}
+use Rattle.plan.specs.Places.{eq?}
 
 -- `0` and `1` are draws; any other character is one that refusal 9 refuses
 unfoldable pub drawOf : ℕ → ℕ

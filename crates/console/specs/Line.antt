@@ -8,7 +8,7 @@ use Rattle.walk.specs.Numbers.{lt?, searchUp}
 use Rattle.bucket_test.specs.Answers.{Values, wordOf, valuesOf}
 use Rattle.bucket_test.specs.Draw.{report}
 use Rattle.bucket_test.specs.declared.State.{State}
-use Rattle.bucket_test.specs.declared.Plan.{Plan}
+use Rattle.plan.specs.declared.Plan.{Plan}
 use Rattle.bucket_test.specs.declared.Drawn.{Drawn}
 use Rattle.bucket_test.specs.declared.Report.{Report}
 use Rattle.bucket_test.specs.declared.Answer.{Answer}

@@ -8,7 +8,7 @@ use lib.ListN.{length, take, drop}
 use Rattle.walk.specs.Numbers.{le?}
 use Rattle.walk.specs.Units.{wide}
 use Rattle.bucket_test.specs.Draw.{Outcome, drawnOf, outcomeOf, begun, drawnOn}
-use Rattle.bucket_test.specs.declared.Plan.{Plan}
+use Rattle.plan.specs.declared.Plan.{Plan}
 use Rattle.bucket_test.specs.declared.Drawn.{Drawn}
 use Rattle.stored_plan.specs.Reading.{decoded}
 use Rattle.console.specs.Input.{drawsOf}

@@ -2,7 +2,7 @@
 
 use crate::input::to_draws;
 use bucket_test::Drawn;
-use bucket_test::Plan;
+use plan::Plan;
 use bucket_test::drawing::draw_all;
 ghost use mathlib.Core.Path.{_≡_};
 ghost use mathlib.Core.List.{_++_};

@@ -2,7 +2,7 @@
 
 use bucket_test::Answer;
 use bucket_test::Drawn;
-use bucket_test::Plan;
+use plan::Plan;
 use bucket_test::Report;
 use bucket_test::State;
 use bucket_test::drawing::report_on;

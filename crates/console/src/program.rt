@@ -4,7 +4,7 @@ use crate::feeding::feed;
 use crate::line::last_line;
 use crate::line::refused_line;
 use bucket_test::Drawn;
-use bucket_test::Plan;
+use plan::Plan;
 use bucket_test::drawing::begin;
 use bucket_test::drawing::is_open;
 use stored_plan::reading::read_plan;

@@ -1,6 +1,6 @@
 -- A plan as it comes in and as it goes out, field by field.
 use Prim.Native.Nat.{ℕ}
-use Rattle.bucket_test.specs.declared.Plan.{Plan}
+use Rattle.plan.specs.declared.Plan.{Plan}
 use Rattle.host.specs.declared.HostPlan.{HostPlan}
 
 abbrev pub planIn : HostPlan → Plan

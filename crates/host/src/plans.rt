@@ -1,7 +1,7 @@
 // A plan as it comes in and as it goes out.
 
 use crate::HostPlan;
-use bucket_test::Plan;
+use plan::Plan;
 ghost use mathlib.Core.Path.{_≡_};
 ghost use Rattle.host.specs.Plans.{planIn, planOut};
 

@@ -6,9 +6,9 @@ use native.Mathlib.Nat.{mul-zero, mul-suc}
 use native.Mathlib.Omega.{arith}
 use lib.ListN.{length, take, drop}
 use lib.Seq.{drop-drop, take-add, take-all}
-use Rattle.bucket_test.specs.Tests.{joinTo}
-use Rattle.bucket_test.specs.Plan.{thresholdAt, allowanceAt, leftAt, rightAt}
-use Rattle.bucket_test.proofs.PlaceLists.{join-cong}
+use Rattle.plan.specs.Places.{joinTo}
+use Rattle.plan.specs.Plan.{thresholdAt, allowanceAt, leftAt, rightAt}
+use Rattle.plan.proofs.PlaceLists.{join-cong}
 use Rattle.stored_plan.specs.Little.{toLE, field, column, Bytes}
 use Rattle.stored_plan.specs.Form.{headerSize, bucketOffset, formSize, header, thresholdEntries, bucketEntries, encoded}
 use Rattle.stored_plan.specs.Reading.{countIn, bucketsIn, planIn, readRefusal}

@@ -7,10 +7,10 @@ use native.Mathlib.Nat.{eq-or-lt-of-le}
 use native.Mathlib.Numerals.{add-one}
 use native.Mathlib.Omega.{arith}
 use lib.ListN.{length, drop, getD, length-append}
-use Rattle.bucket_test.specs.Tests.{joinTo}
-use Rattle.bucket_test.specs.declared.Plan.{Plan}
-use Rattle.bucket_test.proofs.PlaceLists.{join-length}
-use Rattle.bucket_test.proofs.Rules.{Counted}
+use Rattle.plan.specs.Places.{joinTo}
+use Rattle.plan.specs.declared.Plan.{Plan}
+use Rattle.plan.proofs.PlaceLists.{join-length}
+use Rattle.plan.proofs.AcceptedLaws.{Counted}
 use Rattle.stored_plan.specs.Little.{toLE, field, putAt}
 use Rattle.stored_plan.specs.Form.{pair, headerSize, bucketOffset, formSize, header, thresholdEntries, bucketEntries, encoded}
 use Rattle.stored_plan.proofs.LittleLaws.{to-length, field-left, field-right}

@@ -5,10 +5,10 @@ use Prim.Native.Nat.{ℕ, _+_, _*_, _≤_, _<_}
 use native.Mathlib.Omega.{arith}
 use lib.ListN.{replicate}
 use Rattle.walk.specs.Units.{million, allowanceLimit, horizonLimit}
-use Rattle.bucket_test.specs.Plan.{thresholdAt, allowanceAt, leftAt, rightAt, Accepted}
-use Rattle.bucket_test.specs.declared.Plan.{Plan}
-use Rattle.bucket_test.proofs.Rules.{accepted, permitted-le}
-use Rattle.bucket_test.proofs.Ignored.{ignored}
+use Rattle.plan.specs.Plan.{thresholdAt, allowanceAt, leftAt, rightAt, Accepted}
+use Rattle.plan.specs.declared.Plan.{Plan}
+use Rattle.plan.proofs.AcceptedLaws.{accepted, permitted-le}
+use Rattle.plan.proofs.SameCountedLaws.{same-rules}
 use Rattle.stored_plan.specs.Little.{toLE, field}
 use Rattle.stored_plan.specs.Form.{pair, headerSize, bucketOffset, header, thresholdEntries, bucketEntries, encoded}
 use Rattle.stored_plan.specs.Reading.{filled, countIn, bucketsIn, planIn, readRefusal}
@@ -153,7 +153,7 @@ module _ (p : Plan) (a : Accepted p) where
   pub form-read : readRefusal (encoded p) ≡ 0
   unfolding countIn bucketsIn
   form-read =
-      let e = ignored p (counted p) (same p (a .count-range .1) (a .buckets-range .1) .counted-same) .refusal-same ∙ accepted p .1 a in
+      let e = same-rules p (counted p) (same p (a .count-range .1) (a .buckets-range .1) .counted-same) .refusal-same ∙ accepted p .1 a in
       readable (encoded p) .1 record {
         long = rw (encoded-length p) (header-fits (p .count) (p .buckets));
         counts = rw (in-count, in-buckets) (a .count-range, a .buckets-range);

@@ -5,8 +5,8 @@ use Prim.Native.Nat.{ℕ, zero, suc, _+_, _≤_, _<_}
 use native.Mathlib.Numerals.{add-one}
 use native.Mathlib.Omega.{arith}
 use lib.ListN.{length, replicate, set, getD, length-replicate}
-use Rattle.bucket_test.specs.Tests.{overTo}
-use Rattle.bucket_test.proofs.PlaceLists.{over-length, over-get, over-cong, over-put}
+use Rattle.plan.specs.Places.{overTo}
+use Rattle.plan.proofs.PlaceLists.{over-length, over-get, over-cong, over-put}
 use Rattle.stored_plan.specs.Reading.{filled}
 
 pub fill-next : (i : ℕ) (f : ℕ → ℕ) (table₀ table : List ℕ) → table ≡ filled i f table₀ → (v : ℕ) → v ≡ f i

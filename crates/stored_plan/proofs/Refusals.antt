@@ -8,11 +8,11 @@ use native.Mathlib.Omega.{arith}
 use lib.ListN.{length, drop}
 use Rattle.walk.specs.Numbers.{le?}
 use Rattle.walk.proofs.Tests.{le?-complete, le?-fails}
-use Rattle.bucket_test.specs.Tests.{unless, firstRefusal}
-use Rattle.bucket_test.specs.Plan.{countsFit, planRefusal}
-use Rattle.bucket_test.specs.declared.Plan.{Plan}
-use Rattle.bucket_test.proofs.PlaceLaws.{both, le-reads, eq?-fails, eq-reads, first-some, first-one, same-number, none-both, none-says, last-says}
-use Rattle.bucket_test.proofs.Rules.{Counted, counts-say}
+use Rattle.plan.specs.Places.{unless, firstRefusal}
+use Rattle.plan.specs.Plan.{countsFit, planRefusal}
+use Rattle.plan.specs.declared.Plan.{Plan}
+use Rattle.plan.proofs.PlaceLaws.{both, le-reads, eq?-fails, eq-reads, first-some, first-one, same-number, none-both, none-says, last-says}
+use Rattle.plan.proofs.AcceptedLaws.{Counted, counts-say}
 use Rattle.stored_plan.specs.Little.{field}
 use Rattle.stored_plan.specs.Form.{headerSize, bucketOffset, formSize, encoded}
 use Rattle.stored_plan.specs.Reading.{countIn, bucketsIn, planIn, offsetsFit, lengthFits, formRefusal, readRefusal, noPlan, decoded}

@@ -6,14 +6,14 @@ use Prim.Native.Nat.{ℕ, zero, suc, _≤_, _<_}
 use native.Mathlib.Omega.{arith}
 use lib.ListN.{length, take, drop}
 use lib.Seq.{length-take-le, take-all, take-at, drop-at}
-use Rattle.bucket_test.specs.Tests.{overTo}
-use Rattle.bucket_test.specs.Plan.{countsFit}
-use Rattle.bucket_test.specs.declared.Plan.{Plan}
-use Rattle.bucket_test.specs.Ignored.{SameCounted}
-use Rattle.bucket_test.proofs.PlaceLaws.{le-or-lt}
-use Rattle.bucket_test.proofs.PlaceLists.{join-cong}
-use Rattle.bucket_test.proofs.Rules.{accepted}
-use Rattle.bucket_test.proofs.Ignored.{ignored}
+use Rattle.plan.specs.Places.{overTo}
+use Rattle.plan.specs.Plan.{countsFit}
+use Rattle.plan.specs.declared.Plan.{Plan}
+use Rattle.plan.specs.SameCounted.{SameCounted}
+use Rattle.plan.proofs.PlaceLaws.{le-or-lt}
+use Rattle.plan.proofs.PlaceLists.{join-cong}
+use Rattle.plan.proofs.AcceptedLaws.{accepted}
+use Rattle.plan.proofs.SameCountedLaws.{same-rules}
 use Rattle.stored_plan.specs.Form.{formSize, header, thresholdEntries, bucketEntries, encoded}
 use Rattle.stored_plan.specs.Reading.{filled, countIn, bucketsIn, planIn, readRefusal, noPlan, decodedBy, decoded}
 use Rattle.stored_plan.specs.Writing.{writeRefusal, writtenBy, bytesBy, written, bytesAfter}
@@ -122,7 +122,7 @@ module _ (p q : Plan) (c : SameCounted p q) where
   module _ (bytes : List ℕ) where
     refusal-same : writeRefusal q bytes ≡ writeRefusal p bytes
     unfolding writeRefusal
-    refusal-same = rw (ignored p q c .refusal-same, c .counts .0, c .counts .1)
+    refusal-same = rw (same-rules p q c .refusal-same, c .counts .0, c .counts .1)
 
     written-same : (r : ℕ) → (writtenBy r q ≡ writtenBy r p) × (bytesBy r q bytes ≡ bytesBy r p bytes)
     written-same zero = rw (form-same, c .counts .0, c .counts .1) (refl, refl)

@@ -2,9 +2,9 @@
 use mathlib.Core.Path.{refl}
 use Rattle.walk.specs.Numbers.{le?}
 use Rattle.walk.specs.Units.{million, allowanceLimit, horizonLimit}
-use Rattle.bucket_test.specs.Tests.{eq?, allTo, anyTo, overTo, joinTo}
-use Rattle.bucket_test.specs.Plan.{countsFit, rule1, aboveBefore, rule2, rule3, rule4, permitted, bucketFits, rule5, goesOnAt, rule6, planRefusal}
-use Rattle.bucket_test.specs.Trials.{planF}
+use Rattle.plan.specs.Places.{eq?, allTo, anyTo, overTo, joinTo}
+use Rattle.plan.specs.Plan.{countsFit, rule1, aboveBefore, rule2, rule3, rule4, permitted, bucketFits, rule5, goesOnAt, rule6, planRefusal}
+use Rattle.plan.specs.PlanF.{planF}
 use Rattle.stored_plan.specs.Little.{toLE, fromLE, field}
 use Rattle.stored_plan.specs.Form.{bucketOffset, formSize, header, thresholdEntries, bucketEntries, encoded}
 use Rattle.stored_plan.specs.Reading.{filled, countIn, bucketsIn, planIn, offsetsFit, lengthFits, formRefusal, readRefusal, noPlan, decoded}

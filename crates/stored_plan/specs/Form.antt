@@ -2,8 +2,8 @@
 use mathlib.Core.List.{List, _++_}
 use Prim.Native.Nat.{ℕ, _+_, _*_}
 use lib.ListN.{getD}
-use Rattle.bucket_test.specs.Tests.{joinTo}
-use Rattle.bucket_test.specs.declared.Plan.{Plan}
+use Rattle.plan.specs.Places.{joinTo}
+use Rattle.plan.specs.declared.Plan.{Plan}
 use Rattle.stored_plan.specs.Little.{toLE}
 
 -- an entry of two numbers, of m and of n bytes, those at one place of two tables

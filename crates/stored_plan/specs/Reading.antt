@@ -4,9 +4,9 @@ use mathlib.Core.List.{List, [], _∷_}
 use Prim.Native.Nat.{ℕ, zero, suc, _+_}
 use lib.ListN.{length, replicate}
 use Rattle.walk.specs.Numbers.{le?}
-use Rattle.bucket_test.specs.Tests.{eq?, unless, firstRefusal, overTo}
-use Rattle.bucket_test.specs.Plan.{countsFit, planRefusal}
-use Rattle.bucket_test.specs.declared.Plan.{Plan}
+use Rattle.plan.specs.Places.{eq?, unless, firstRefusal, overTo}
+use Rattle.plan.specs.Plan.{countsFit, planRefusal}
+use Rattle.plan.specs.declared.Plan.{Plan}
 use Rattle.stored_plan.specs.Little.{field, column}
 use Rattle.stored_plan.specs.Form.{headerSize, bucketOffset, formSize}
 use Rattle.stored_plan.specs.declared.Read.{Read}

@@ -4,9 +4,9 @@ use mathlib.Core.Logic.{_↔_}
 use mathlib.Core.Path.{_≡_}
 use Prim.Native.Nat.{ℕ, _≤_}
 use lib.ListN.{length, take, drop}
-use Rattle.bucket_test.specs.Plan.{thresholdAt, allowanceAt, leftAt, rightAt, planRefusal}
-use Rattle.bucket_test.specs.Ignored.{SameCounted}
-use Rattle.bucket_test.specs.declared.Plan.{Plan}
+use Rattle.plan.specs.Plan.{thresholdAt, allowanceAt, leftAt, rightAt, planRefusal}
+use Rattle.plan.specs.SameCounted.{SameCounted}
+use Rattle.plan.specs.declared.Plan.{Plan}
 use Rattle.stored_plan.specs.Little.{Bytes}
 use Rattle.stored_plan.specs.Form.{formSize, encoded}
 use Rattle.stored_plan.specs.Reading.{decoded}

@@ -3,7 +3,7 @@ use mathlib.Core.Path.{_≡_}
 use mathlib.Core.List.{List, [], _∷_, _++_, map}
 use Prim.Native.Nat.{ℕ}
 use lib.ListN.{length, take, set, replicate}
-use Rattle.bucket_test.specs.Trials.{planF}
+use Rattle.plan.specs.PlanF.{planF}
 use Rattle.stored_plan.specs.Form.{encoded}
 use Rattle.stored_plan.specs.Reading.{noPlan, decoded}
 use Rattle.stored_plan.specs.Writing.{written, bytesAfter}

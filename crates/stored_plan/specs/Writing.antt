@@ -3,9 +3,9 @@ use mathlib.Core.List.{List, [], _∷_, _++_}
 use Prim.Native.Nat.{ℕ, zero, suc}
 use lib.ListN.{length, drop}
 use Rattle.walk.specs.Numbers.{le?}
-use Rattle.bucket_test.specs.Tests.{unless, firstRefusal}
-use Rattle.bucket_test.specs.Plan.{planRefusal}
-use Rattle.bucket_test.specs.declared.Plan.{Plan}
+use Rattle.plan.specs.Places.{unless, firstRefusal}
+use Rattle.plan.specs.Plan.{planRefusal}
+use Rattle.plan.specs.declared.Plan.{Plan}
 use Rattle.stored_plan.specs.Form.{formSize, encoded}
 use Rattle.stored_plan.specs.declared.Written.{Written}
 

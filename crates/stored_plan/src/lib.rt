@@ -3,7 +3,7 @@ mod little;
 pub mod reading;
 pub mod writing;
 
-use bucket_test::Plan;
+use plan::Plan;
 
 // A plan that was read, or the number of the refusal, 0 for none; a refused reading hands back zeros in every number of the plan.
 pub struct Read {

@@ -8,9 +8,9 @@ ghost use Rattle.stored_plan.specs.Reading.{filled, countIn, bucketsIn, 
 use crate::Read;
 use crate::little::read_le;
 use crate::little::read_u32;
-use bucket_test::Plan;
-use bucket_test::plan_check::counts_fit;
-use bucket_test::plan_check::plan_refusal;
+use plan::Plan;
+use plan::rules::counts_fit;
+use plan::rules::plan_refusal;
 
 // The header's offsets are those of its counts (01, refusal 7).
 fn offsets_fit(bytes: &[u8]) -> bool

@@ -2,14 +2,14 @@
 ghost use mathlib.Core.Path.{_≡_};
 ghost use Prim.Native.Nat.{_+_, _*_, _≤_};
 ghost use lib.ListN.{length};
-ghost use Rattle.bucket_test.specs.Tests.{joinTo};
+ghost use Rattle.plan.specs.Places.{joinTo};
 ghost use Rattle.stored_plan.specs.Little.{putAt};
 ghost use Rattle.stored_plan.specs.Form.{pair, headerSize, header};
 ghost use Rattle.stored_plan.specs.Writing.{written, bytesAfter};
 use crate::Written;
 use crate::little::write_two;
-use bucket_test::Plan;
-use bucket_test::plan_check::plan_refusal;
+use plan::Plan;
+use plan::rules::plan_refusal;
 
 // The header's counts and offsets, then its times.
 fn write_header(bytes: &mut [u8], p: Plan)

@@ -6,11 +6,11 @@ use Prim.Native.Nat.{ℕ, _-_, _≤_}
 use native.Mathlib.Omega.{arith}
 use borrow.Author.Needs.{needs}
 use lib.ListN.{getD}
-use Rattle.bucket_test.specs.Tests.{anyTo}
+use Rattle.plan.specs.Places.{anyTo}
 use Rattle.bucket_test.specs.Turn.{noRecord, wideOpen}
 use Rattle.bucket_test.specs.Answers.{anyWide}
 use Rattle.bucket_test.specs.declared.Threshold.{Threshold}
-use Rattle.bucket_test.proofs.PlaceLaws.{any-holds, any-next, any-done}
+use Rattle.plan.proofs.PlaceLaws.{any-holds, any-next, any-done}
 use Rattle.bucket_test.proofs.answering.any_wide.Statement.{statement}
 use Rattle.bucket_test.proofs.answering.any_wide.Tie as tie
 

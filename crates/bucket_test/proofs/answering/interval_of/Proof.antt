@@ -8,7 +8,7 @@ use lib.ListN.{getD}
 use Rattle.walk.specs.Numbers.{only, choose}
 use Rattle.walk.specs.Units.{million}
 use Rattle.walk.specs.Strings.{Upper, Lower, isOn}
-use Rattle.bucket_test.specs.Tests.{largestTo, smallestTo}
+use Rattle.plan.specs.Places.{largestTo, smallestTo}
 use Rattle.bucket_test.specs.Turn.{noRecord}
 use Rattle.bucket_test.specs.Answers.{lowOf, highOf}
 use Rattle.bucket_test.specs.declared.Threshold.{Threshold}

@@ -4,10 +4,10 @@ use Prim.Native.Nat.{_*_}
 use native.Mathlib.Omega.{arith}
 use lib.ListN.{length}
 use Rattle.walk.specs.Units.{wide}
-use Rattle.bucket_test.specs.Plan.{planRefusal}
+use Rattle.plan.specs.Plan.{planRefusal}
 use Rattle.bucket_test.specs.Turn.{startRecord}
 use Rattle.bucket_test.specs.Draw.{startState, startWords, noState}
-use Rattle.bucket_test.proofs.PlaceLists.{words-say}
+use Rattle.bucket_test.proofs.PartLaws.{words-say}
 use Rattle.bucket_test.proofs.DrawingLaws.{places, hands, words-do-not, begun-plan, begun-8, begun-0}
 use borrow.Author.Needs.{needs}
 use Rattle.bucket_test.proofs.drawing.begin.Statement.{statement}

@@ -5,12 +5,12 @@ use Prim.Native.Nat.{_*_, _≤_}
 use native.Mathlib.Omega.{arith}
 use lib.ListN.{length}
 use Rattle.walk.specs.Units.{wide}
-use Rattle.bucket_test.specs.Plan.{planRefusal}
+use Rattle.plan.specs.Plan.{planRefusal}
 use Rattle.bucket_test.specs.Words.{wordsFit}
 use Rattle.bucket_test.specs.Answers.{answerOf, isEnding}
 use Rattle.bucket_test.specs.Draw.{stateSound}
-use Rattle.bucket_test.proofs.PlaceLaws.{passed, failed}
-use Rattle.bucket_test.proofs.PlaceLists.{words-say}
+use Rattle.plan.proofs.PlaceLaws.{passed, failed}
+use Rattle.bucket_test.proofs.PartLaws.{words-say}
 use Rattle.bucket_test.proofs.DrawingLaws.{places, hands, words-do-not, drawn-plan, drawn-8, drawn-9, drawn-10, drawn-11, drawn-0}
 use borrow.Author.Needs.{needs}
 use Rattle.bucket_test.proofs.drawing.draw.Statement.{statement}

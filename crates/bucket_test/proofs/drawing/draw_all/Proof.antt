@@ -4,7 +4,7 @@ use Prim.Native.Nat.{_-_, _≤_}
 use native.Mathlib.Omega.{arith}
 use lib.ListN.{length, drop}
 use Rattle.bucket_test.specs.Draw.{drawnOn, outcomeOf}
-use Rattle.bucket_test.proofs.PlaceLaws.{passed, failed}
+use Rattle.plan.proofs.PlaceLaws.{passed, failed}
 use Rattle.bucket_test.proofs.DrawingLaws.{run-end, run-ended, run-on}
 use borrow.Author.Needs.{needs}
 use Rattle.bucket_test.proofs.drawing.draw_all.Statement.{statement}

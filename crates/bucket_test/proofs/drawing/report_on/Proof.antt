@@ -1,7 +1,7 @@
 -- A plan that is refused, or the answer and the interval.
 use mathlib.Core.Path.{_≡_, sym}
 use native.Mathlib.Omega.{arith}
-use Rattle.bucket_test.specs.Plan.{planRefusal}
+use Rattle.plan.specs.Plan.{planRefusal}
 use Rattle.bucket_test.proofs.DrawingLaws.{places, report-plan, report-0}
 use borrow.Author.Needs.{needs}
 use Rattle.bucket_test.proofs.drawing.report_on.Statement.{statement}

@@ -6,13 +6,13 @@ use Prim.Native.Nat.{ℕ, _*_, _-_, _≤_}
 use native.Mathlib.Omega.{arith}
 use lib.ListN.{length}
 use Rattle.walk.specs.Units.{wide}
-use Rattle.bucket_test.specs.Tests.{allTo}
-use Rattle.bucket_test.specs.Plan.{spendingOf}
+use Rattle.plan.specs.Places.{allTo}
+use Rattle.plan.specs.Plan.{spendingOf}
 use Rattle.bucket_test.specs.Turn.{recordAt, soundAt}
-use Rattle.bucket_test.specs.declared.Plan.{Plan}
+use Rattle.plan.specs.declared.Plan.{Plan}
 use Rattle.bucket_test.specs.declared.State.{State}
-use Rattle.bucket_test.proofs.PlaceLaws.{passed, failed, all-next, all-done, all-fails}
-use Rattle.bucket_test.proofs.Rules.{accepted}
+use Rattle.plan.proofs.PlaceLaws.{passed, failed, all-next, all-done, all-fails}
+use Rattle.plan.proofs.AcceptedLaws.{accepted}
 use Rattle.bucket_test.proofs.TurningLaws.{part-lent}
 use borrow.Author.Needs.{needs}
 use Rattle.bucket_test.proofs.judging.records_sound.Statement.{statement}

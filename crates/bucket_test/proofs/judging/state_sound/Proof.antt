@@ -2,7 +2,7 @@
 use native.Mathlib.Omega.{arith}
 use Rattle.walk.proofs.Tests.{le?-complete, le?-fails}
 use Rattle.bucket_test.specs.Draw.{stateSound}
-use Rattle.bucket_test.proofs.Rules.{accepted}
+use Rattle.plan.proofs.AcceptedLaws.{accepted}
 use Rattle.bucket_test.proofs.judging.state_sound.Statement.{statement}
 use Rattle.bucket_test.proofs.judging.state_sound.Tie as tie
 

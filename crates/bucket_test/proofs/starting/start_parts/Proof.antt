@@ -7,7 +7,7 @@ use lib.ListN.{length, drop}
 use Rattle.walk.specs.Units.{wide}
 use Rattle.walk.specs.Row.{startRow}
 use Rattle.walk.specs.Record.{padded}
-use Rattle.bucket_test.specs.Tests.{joinTo}
+use Rattle.plan.specs.Places.{joinTo}
 use Rattle.bucket_test.proofs.TurningLaws.{part-length, part-lent, words-none, words-all, part-put}
 use borrow.Author.Needs.{needs}
 use Rattle.bucket_test.proofs.starting.start_parts.Statement.{statement}

@@ -5,13 +5,13 @@ use Prim.Native.Nat.{ℕ, _+_, _*_, _-_, _≤_}
 use native.Mathlib.Omega.{arith}
 use lib.ListN.{length, take, drop, getD}
 use Rattle.walk.specs.Units.{wide}
-use Rattle.bucket_test.specs.Tests.{overTo, joinTo}
-use Rattle.bucket_test.specs.Plan.{spendingOf}
+use Rattle.plan.specs.Places.{overTo, joinTo}
+use Rattle.plan.specs.Plan.{spendingOf}
 use Rattle.bucket_test.specs.Words.{partAt}
 use Rattle.bucket_test.specs.Turn.{noRecord, recordTurn, partTurn}
-use Rattle.bucket_test.specs.declared.Plan.{Plan}
+use Rattle.plan.specs.declared.Plan.{Plan}
 use Rattle.bucket_test.specs.declared.Threshold.{Threshold}
-use Rattle.bucket_test.proofs.Rules.{accepted}
+use Rattle.plan.proofs.AcceptedLaws.{accepted}
 use Rattle.bucket_test.proofs.TurningLaws.{record-now, record-put, words-none, words-all, part-now, part-put, may-turn, same-record, same-part}
 use borrow.Author.Needs.{needs}
 use Rattle.bucket_test.proofs.turning.turn_all.Statement.{statement}

@@ -1,5 +1,5 @@
 -- Each return is one case of the rule.
-use Rattle.bucket_test.proofs.PlaceLaws.{eq?-complete, eq?-fails}
+use Rattle.plan.proofs.PlaceLaws.{eq?-complete, eq?-fails}
 use Rattle.console.specs.Input.{drawOf}
 use Rattle.console.proofs.input.draw_of.Statement.{statement}
 use Rattle.console.proofs.input.draw_of.Tie as tie

@@ -1,8 +1,8 @@
 -- Past each test that passed, the refusal is the first of those left to judge.
 use mathlib.Core.Path.{_≡_, sym, _∙_}
 use borrow.Author.Needs.{needs}
-use Rattle.bucket_test.specs.Plan.{countsFit}
-use Rattle.bucket_test.proofs.PlaceLaws.{passed, failed}
+use Rattle.plan.specs.Plan.{countsFit}
+use Rattle.plan.proofs.PlaceLaws.{passed, failed}
 use Rattle.stored_plan.specs.Reading.{countIn, bucketsIn, formRefusal}
 use Rattle.stored_plan.proofs.reading.form_refusal.Statement.{statement}
 use Rattle.stored_plan.proofs.reading.form_refusal.Tie as tie

@@ -1,6 +1,6 @@
 -- The test of the definition.
 use borrow.Author.Needs.{needs}
-use Rattle.bucket_test.specs.Tests.{eq?}
+use Rattle.plan.specs.Places.{eq?}
 use Rattle.stored_plan.specs.Form.{bucketOffset, formSize}
 use Rattle.stored_plan.specs.Reading.{countIn, bucketsIn, lengthFits}
 use Rattle.stored_plan.proofs.reading.length_fits.Statement.{statement}

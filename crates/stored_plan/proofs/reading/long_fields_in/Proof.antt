@@ -4,7 +4,7 @@ use Prim.Native.Nat.{_-_, _≤_}
 use native.Mathlib.Omega.{arith}
 use borrow.Author.Needs.{needs}
 use lib.ListN.{length}
-use Rattle.bucket_test.specs.Tests.{overTo}
+use Rattle.plan.specs.Places.{overTo}
 use Rattle.stored_plan.specs.Little.{column}
 use Rattle.stored_plan.specs.Reading.{filled}
 use Rattle.stored_plan.proofs.ReadingLaws.{fill-next}

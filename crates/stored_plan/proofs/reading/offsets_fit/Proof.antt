@@ -1,7 +1,7 @@
 -- The two tests of the definition, one after the other.
 use borrow.Author.Needs.{needs}
-use Rattle.bucket_test.specs.Tests.{eq?}
-use Rattle.bucket_test.proofs.PlaceLaws.{eq?-complete, eq?-fails}
+use Rattle.plan.specs.Places.{eq?}
+use Rattle.plan.proofs.PlaceLaws.{eq?-complete, eq?-fails}
 use Rattle.stored_plan.specs.Form.{bucketOffset}
 use Rattle.stored_plan.specs.Reading.{countIn, offsetsFit}
 use Rattle.stored_plan.proofs.reading.offsets_fit.Statement.{statement}

@@ -2,7 +2,7 @@
 use mathlib.Core.Path.{sym, ap, _∙_}
 use native.Mathlib.Omega.{arith}
 use borrow.Author.Needs.{needs}
-use Rattle.bucket_test.specs.Plan.{planRefusal}
+use Rattle.plan.specs.Plan.{planRefusal}
 use Rattle.stored_plan.proofs.Refusals.{decoded-none, decoded-some, short, form-refused, past-form, form-says}
 use Rattle.stored_plan.proofs.reading.read_plan.Statement.{statement}
 use Rattle.stored_plan.proofs.reading.read_plan.Tie as tie

@@ -4,7 +4,7 @@ use Prim.Native.Nat.{_-_, _≤_}
 use native.Mathlib.Omega.{arith}
 use borrow.Author.Needs.{needs}
 use lib.ListN.{length}
-use Rattle.bucket_test.specs.Tests.{joinTo}
+use Rattle.plan.specs.Places.{joinTo}
 use Rattle.stored_plan.specs.Little.{putAt}
 use Rattle.stored_plan.specs.Form.{pair}
 use Rattle.stored_plan.proofs.Putting.{put-none}

@@ -2,8 +2,8 @@
 use mathlib.Core.Path.{sym, _∙_}
 use native.Mathlib.Omega.{arith}
 use borrow.Author.Needs.{needs}
-use Rattle.bucket_test.specs.Plan.{Accepted}
-use Rattle.bucket_test.proofs.Rules.{accepted}
+use Rattle.plan.specs.Plan.{Accepted}
+use Rattle.plan.proofs.AcceptedLaws.{accepted}
 use Rattle.stored_plan.specs.Form.{bucketOffset, formSize, thresholdEntries, bucketEntries}
 use Rattle.stored_plan.proofs.FormLaws.{put-form}
 use Rattle.stored_plan.proofs.Refusals.{written-none, written-some, plan-refused, no-room, room}

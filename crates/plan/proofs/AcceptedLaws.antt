@@ -1,0 +1,159 @@
+-- A plan has no refusal exactly when it keeps the rules in words (01, "The plan"), and what an accepted plan gives the walk.
+use mathlib.Core.Path.{_≡_, refl}
+use mathlib.Core.Bool.{true}
+use mathlib.Core.List.{List, [], _∷_}
+use mathlib.Core.Logic.{_↔_, inl, inr}
+use Prim.Native.Nat.{ℕ, zero, suc, _≤_, _<_}
+use native.Mathlib.Omega.{arith}
+use Rattle.walk.specs.Units.{million, allowanceLimit, horizonLimit}
+use Rattle.walk.specs.Spending.{IsSpending}
+use Rattle.walk.proofs.SpendingLaws.{spending-is}
+use Rattle.plan.specs.Places.{unless, firstRefusal}
+use Rattle.plan.specs.Plan.{countLimit, bucketLimit, thresholdLimit, delayLimit, countsFit, thresholdAt, allowanceAt, leftAt, rightAt, spendingOf, rule1, aboveBefore, rule2, rule3, rule4, permitted, bucketFits, rule5, rule6, planRefusal, Permitted, Covered, Accepted, AcceptedTheorem}
+use Rattle.plan.specs.declared.Plan.{Plan}
+use Rattle.plan.proofs.PlaceLaws.{both, either, neither, le-reads, eq-reads, within-reads, all-say, any-say, none-says}
+use Rattle.plan.proofs.Cover.{covers}
+
+-- ---- each rule in words
+
+-- rule 1 is of the counts alone
+abbrev pub Counted : ℕ → ℕ → Type 0
+Counted count buckets = ((1 ≤ count) × (count ≤ countLimit)) × ((2 ≤ buckets) × (buckets ≤ bucketLimit))
+
+pub counts-say : (count buckets : ℕ) → (countsFit count buckets ≡ true) ↔ Counted count buckets
+unfolding countsFit
+counts-say count buckets = both (within-reads 1 countLimit count) (within-reads 2 bucketLimit buckets)
+
+module _ (p : Plan) where
+  pub rule1-says : (rule1 p ≡ true) ↔ Counted (p .count) (p .buckets)
+  unfolding rule1
+  rule1-says = counts-say (p .count) (p .buckets)
+
+  abbrev Above : ℕ → Type 0
+  Above zero = Unit
+  Above (suc i) = thresholdAt p i < thresholdAt p (suc i)
+
+  above-says : (i : ℕ) → (aboveBefore p i ≡ true) ↔ Above i
+  unfolding aboveBefore
+  above-says zero = (λ e. tt, λ h. refl)
+  above-says (suc i) = le-reads (suc (thresholdAt p i)) (thresholdAt p (suc i))
+
+  abbrev pub Rising : Type 0
+  Rising = (i : ℕ) → i < p .count → ((1 ≤ thresholdAt p i) × (thresholdAt p i ≤ thresholdLimit)) × Above i
+
+  pub rule2-says : (rule2 p ≡ true) ↔ Rising
+  unfolding rule2
+  rule2-says = all-say _ (λ i. both (within-reads 1 thresholdLimit (thresholdAt p i)) (above-says i)) (p .count)
+
+  abbrev pub Allowed : Type 0
+  Allowed = (i : ℕ) → i < p .count → (1 ≤ allowanceAt p i) × (allowanceAt p i ≤ allowanceLimit)
+
+  pub rule3-says : (rule3 p ≡ true) ↔ Allowed
+  unfolding rule3
+  rule3-says = all-say _ (λ i. within-reads 1 allowanceLimit (allowanceAt p i)) (p .count)
+
+  abbrev pub Timed : Type 0
+  Timed = ((1 ≤ p .delay) × (p .delay ≤ delayLimit)) × ((1 ≤ p .horizon) × (p .horizon ≤ horizonLimit))
+
+  pub rule4-says : (rule4 p ≡ true) ↔ Timed
+  unfolding rule4
+  rule4-says = both (within-reads 1 delayLimit (p .delay)) (within-reads 1 horizonLimit (p .horizon))
+
+  pub permitted-says : (e : ℕ) → (permitted p e ≡ true) ↔ Permitted p e
+  unfolding permitted
+  permitted-says e = either (eq-reads e 0) (either (eq-reads e million) (any-say _ (λ i. eq-reads e (thresholdAt p i)) (p .count)))
+
+  abbrev pub Fitting : Type 0
+  Fitting =
+      (j : ℕ) → j < p .buckets
+      → (leftAt p j < rightAt p j)
+      × ((¬ ((leftAt p j ≡ 0) × (rightAt p j ≡ million)))
+      × (Permitted p (leftAt p j) × Permitted p (rightAt p j)))
+
+  pub rule5-says : (rule5 p ≡ true) ↔ Fitting
+  unfolding rule5 bucketFits
+  rule5-says =
+      all-say _
+      (λ j.
+      both (le-reads (suc (leftAt p j)) (rightAt p j))
+      (both (neither _ (both (eq-reads (leftAt p j) 0) (eq-reads (rightAt p j) million)))
+      (both (permitted-says (leftAt p j)) (permitted-says (rightAt p j)))))
+      (p .buckets)
+
+  -- ---- the refusal: what is left to judge, from each rule on
+
+  abbrev pub from6 : List ℕ
+  from6 = unless (rule6 p) 6 ∷ []
+
+  abbrev pub from5 : List ℕ
+  from5 = unless (rule5 p) 5 ∷ from6
+
+  abbrev pub from4 : List ℕ
+  from4 = unless (rule4 p) 4 ∷ from5
+
+  abbrev pub from3 : List ℕ
+  from3 = unless (rule3 p) 3 ∷ from4
+
+  abbrev pub from2 : List ℕ
+  from2 = unless (rule2 p) 2 ∷ from3
+
+  abbrev Kept : Type 0
+  Kept = Counted (p .count) (p .buckets) × (Rising × (Allowed × (Timed × (Fitting × (Covered p × (firstRefusal [] ≡ 0))))))
+
+  kept : (planRefusal p ≡ 0) ↔ Kept
+  unfolding planRefusal
+  kept =
+      none-says (rule1 p) 0 from2 rule1-says
+      (none-says (rule2 p) 1 from3 rule2-says
+      (none-says (rule3 p) 2 from4 rule3-says
+      (none-says (rule4 p) 3 from5 rule4-says
+      (none-says (rule5 p) 4 from6 rule5-says
+      (none-says (rule6 p) 5 [] (covers p) (λ e. e, λ e. e))))))
+
+  gives : Kept → Accepted p
+  gives (counts, (rising, (allowed, (times, (fits, (covered, none)))))) = record {
+    count-range = counts .0;
+    buckets-range = counts .1;
+    threshold-range = λ i l. rising i l .0;
+    thresholds-rise = λ i l. rising (suc i) l .1;
+    allowance-range = allowed;
+    delay-range = times .0;
+    horizon-range = times .1;
+    ends-order = λ j l. fits j l .0;
+    not-whole = λ j l. fits j l .1 .0;
+    ends-permitted = λ j l. fits j l .1 .1;
+    covered = covered;
+  }
+
+  keeps : Accepted p → Kept
+  keeps a =
+      let rising : Rising = λ i l. (a .threshold-range i l, above i l) in
+      let fits : Fitting = λ j l. (a .ends-order j l, (a .not-whole j l, a .ends-permitted j l)) in
+      ((a .count-range, a .buckets-range), (rising, (a .allowance-range, ((a .delay-range, a .horizon-range), (fits, (a .covered, refl))))))
+    where
+      above : (i : ℕ) → i < p .count → Above i
+      above zero l = tt
+      above (suc i) l = a .thresholds-rise i l
+
+pub accepted : AcceptedTheorem
+accepted p = (λ e. gives p (kept p .0 e), λ a. kept p .1 (keeps p a))
+
+-- ---- what an accepted plan gives
+
+module _ (p : Plan) where
+  -- an end is at most a million
+  pub permitted-le : Accepted p → (e : ℕ) → Permitted p e → e ≤ million
+  unfolding million
+  permitted-le ok e (inl z) = omega arith
+  permitted-le ok e (inr (inl z)) = omega arith
+  permitted-le ok e (inr (inr z)) = omega (arith, z .2, ok .threshold-range (z .0) (z .1))
+
+  -- the walk of the threshold at place i
+  module _ (ok : Accepted p) (i : ℕ) (l : i < p .count) where
+    pub threshold-ok : thresholdAt p i ≤ million
+    unfolding million
+    threshold-ok = omega (arith, ok .threshold-range i l .1)
+
+    pub spends : IsSpending (spendingOf p i)
+    unfolding spendingOf
+    spends = spending-is (allowanceAt p i) (p .delay) (ok .delay-range .0) (ok .allowance-range i l .1)

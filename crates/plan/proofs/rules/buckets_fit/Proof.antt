@@ -1,0 +1,90 @@
+-- The buckets before place j fit.
+use mathlib.Core.Path.{_≡_, refl, sym}
+use mathlib.Core.Bool.{true}
+use Prim.Native.Nat.{_≤_, _-_}
+use borrow.Author.Needs.{needs}
+use Rattle.plan.specs.Places.{allTo}
+use Rattle.plan.specs.Plan.{bucketFits, rule5}
+use Rattle.plan.proofs.PlaceLaws.{passed, failed, all-next, all-done, all-fails}
+use Rattle.plan.proofs.rules.buckets_fit.Statement.{statement}
+use Rattle.plan.proofs.rules.buckets_fit.Tie as tie
+
+abbrev Inv-loop : tie.InvT-loop
+Inv-loop p k b j₀ j = (j ≤ b) × (allTo j (bucketFits p) ≡ true)
+
+abbrev μ-loop : tie.MeasureT-loop
+μ-loop p k b j₀ j = b - j
+
+cast-k : tie.Need-cast-k Inv-loop μ-loop
+cast-k c = search needs
+
+cast-b : tie.Need-cast-b Inv-loop μ-loop
+cast-b c = search needs
+
+loop-holds : tie.Need-loop-holds Inv-loop μ-loop
+unfolding allTo
+loop-holds c = (search needs, refl)
+
+mul-left : tie.Need-mul-left Inv-loop μ-loop
+mul-left c = search needs
+
+element-copy-out-left : tie.Need-element-copy-out-left Inv-loop μ-loop
+element-copy-out-left c = search needs
+
+mul-right : tie.Need-mul-right Inv-loop μ-loop
+mul-right c = search needs
+
+element-copy-out-right : tie.Need-element-copy-out-right Inv-loop μ-loop
+element-copy-out-right c = search needs
+
+bucket-fits-requires : tie.Need-bucket-fits-requires Inv-loop μ-loop
+bucket-fits-requires c κs = search needs
+
+returns : tie.Need-returns Inv-loop μ-loop
+unfolding rule5
+returns c =
+    let p = c .before .before .before .before .before .before .before .before .args .t1 in
+    let l = c .before .before .before .before .before .before .before .loop in
+    sym
+    (all-fails (bucketFits p) _ _ (c .before .before .before .before .before .before .loop-test .taken)
+    (failed (c .before .bucket-fits .ensures p (l .j) refl refl refl refl) (c .if1 .taken)))
+
+add-j : tie.Need-add-j Inv-loop μ-loop
+add-j c = search needs
+
+loop-less : tie.Need-loop-less Inv-loop μ-loop
+loop-less c = search needs
+
+loop-again : tie.Need-loop-again Inv-loop μ-loop
+loop-again c =
+    let p = c .before .before .before .before .before .before .before .before .args .t1 in
+    let l = c .before .before .before .before .before .before .before .loop in (
+      search needs,
+      all-next (bucketFits p) (l .j) (l .inv .1) (passed (c .before .bucket-fits .ensures p (l .j) refl refl refl refl) (c .if1 .left)),
+    )
+
+returns-2 : tie.Need-returns-2 Inv-loop μ-loop
+unfolding rule5
+returns-2 c =
+    let l = c .before .loop in
+    all-done (bucketFits (c .before .before .args .t1)) _ _ (l .inv .0) (c .loop-test .left) (l .inv .1)
+
+pub buckets-fit-spec : {M : Type 1} → statement M
+buckets-fit-spec =
+    tie.close
+    (tie.spec
+    Inv-loop
+    μ-loop
+    cast-k
+    cast-b
+    loop-holds
+    mul-left
+    element-copy-out-left
+    mul-right
+    element-copy-out-right
+    bucket-fits-requires
+    returns
+    add-j
+    loop-less
+    loop-again
+    returns-2)

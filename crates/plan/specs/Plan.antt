@@ -1,0 +1,131 @@
+-- The plan and its rules (01, "The plan", and refusals 1 to 6 in "Who can cause which refusal").
+use mathlib.Core.Bool.{Bool, true, not, _&&_, _||_}
+use mathlib.Core.List.{[], _∷_}
+use mathlib.Core.Logic.{_⊎_, _↔_}
+use mathlib.Core.Path.{_≡_}
+use Prim.Native.Nat.{ℕ, zero, suc, _*_, _≤_, _<_}
+use lib.ListN.{getD}
+use Rattle.walk.specs.Numbers.{le?, lt?}
+use Rattle.walk.specs.Units.{million, allowanceLimit, horizonLimit}
+use Rattle.walk.specs.Spending.{spending}
+use Rattle.plan.specs.Places.{eq?, within, allTo, anyTo, unless, firstRefusal}
+use Rattle.plan.specs.declared.Plan.{Plan}
+
+-- the most thresholds and buckets, the largest threshold, in millionths, and the largest delay (01, "The plan"; the largest allowance and
+-- horizon are in walk/specs/Units)
+abbrev pub countLimit : ℕ
+countLimit = 10
+
+abbrev pub bucketLimit : ℕ
+bucketLimit = 16
+
+abbrev pub thresholdLimit : ℕ
+thresholdLimit = 999999
+
+abbrev pub delayLimit : ℕ
+delayLimit = 65535
+
+-- K and B in their ranges; a stored form's counts are judged before there is a plan
+unfoldable pub countsFit : ℕ → ℕ → Bool
+countsFit count buckets = within 1 countLimit count && within 2 bucketLimit buckets
+
+module _ (p : Plan) where
+  -- the threshold and the allowance at place i, the ends of the bucket at place j; places are counted from 0
+  abbrev pub thresholdAt : ℕ → ℕ
+  thresholdAt i = getD (p .thresholds) i 0
+
+  abbrev pub allowanceAt : ℕ → ℕ
+  allowanceAt i = getD (p .allowances) i 0
+
+  abbrev pub leftAt : ℕ → ℕ
+  leftAt j = getD (p .left) j 0
+
+  abbrev pub rightAt : ℕ → ℕ
+  rightAt j = getD (p .right) j 0
+
+  -- E(n) of the threshold at place i
+  unfoldable pub spendingOf : ℕ → ℕ → ℕ
+  spendingOf i n = spending (allowanceAt i) (p .delay) n
+
+  -- ---- the rules as tests, each over all entries
+
+  -- 1: K and B in their ranges
+  unfoldable pub rule1 : Bool
+  rule1 = countsFit (p .count) (p .buckets)
+
+  -- 2: each threshold in its range and above the one before
+  unfoldable pub aboveBefore : ℕ → Bool
+  aboveBefore zero = true
+  aboveBefore (suc i) = lt? (thresholdAt i) (thresholdAt (suc i))
+
+  unfoldable pub rule2 : Bool
+  rule2 = allTo (p .count) (λ i. within 1 thresholdLimit (thresholdAt i) && aboveBefore i)
+
+  -- 3: each allowance in its range
+  unfoldable pub rule3 : Bool
+  rule3 = allTo (p .count) (λ i. within 1 allowanceLimit (allowanceAt i))
+
+  -- 4: k and N in their ranges
+  unfoldable pub rule4 : Bool
+  rule4 = within 1 delayLimit (p .delay) && within 1 horizonLimit (p .horizon)
+
+  -- 5: in each bucket left < right, not both ends 0 and 1,000,000, and both ends permitted
+  unfoldable pub permitted : ℕ → Bool
+  permitted e = eq? e 0 || (eq? e million || anyTo (p .count) (λ i. eq? e (thresholdAt i)))
+
+  unfoldable pub bucketFits : ℕ → Bool
+  bucketFits j =
+      lt? (leftAt j) (rightAt j)
+      && (not (eq? (leftAt j) 0 && eq? (rightAt j) million)
+      && (permitted (leftAt j) && permitted (rightAt j)))
+
+  unfoldable pub rule5 : Bool
+  rule5 = allTo (p .buckets) bucketFits
+
+  -- 6: every p from 0 to 1 lies in some bucket. As a test: some bucket begins at 0, and at each right end below 1,000,000 some bucket
+  -- goes on. proofs/Cover shows that the test passes exactly when every fraction lies in some bucket (`Covered`, below).
+  unfoldable pub goesOnAt : ℕ → Bool
+  goesOnAt e = le? million e || anyTo (p .buckets) (λ i. le? (leftAt i) e && lt? e (rightAt i))
+
+  unfoldable pub rule6 : Bool
+  rule6 = anyTo (p .buckets) (λ j. eq? (leftAt j) 0) && allTo (p .buckets) (λ j. goesOnAt (rightAt j))
+
+  -- ---- the refusal of a plan, 0 for an accepted one: 1 to 6, each number over all entries before the next
+
+  unfoldable pub planRefusal : ℕ
+  planRefusal = firstRefusal (unless rule1 1 ∷ unless rule2 2 ∷ unless rule3 3 ∷ unless rule4 4 ∷ unless rule5 5 ∷ unless rule6 6 ∷ [])
+
+  -- ---- the rules in words. proofs/Rules shows that a plan has no refusal exactly when it keeps them.
+
+  abbrev pub Permitted : ℕ → Type 0
+  Permitted e = (e ≡ 0) ⊎ ((e ≡ million) ⊎ ((i : ℕ) × (i < p .count) × (e ≡ thresholdAt i)))
+
+  -- the bucket at place j holds the fraction x / y: above its left end, which 0 includes, and up to and including its right end
+  abbrev pub Holds : ℕ → ℕ → ℕ → Type 0
+  Holds x y j = ((leftAt j * y < x * million) ⊎ (leftAt j ≡ 0)) × (x * million ≤ rightAt j * y)
+
+  -- every fraction x / y from 0 to 1 lies in some bucket; since ends are fractions, so does every p between them
+  unfoldable pub Covered : Type 0
+  Covered = (x y : ℕ) → 0 < y → x ≤ y → (j : ℕ) × (j < p .buckets) × Holds x y j
+
+  -- (01: an accepted plan)
+  pub record Accepted : Type 0 where
+    pub count-range : (1 ≤ p .count) × (p .count ≤ countLimit)
+    pub buckets-range : (2 ≤ p .buckets) × (p .buckets ≤ bucketLimit)
+    pub threshold-range : (i : ℕ) → i < p .count → (1 ≤ thresholdAt i) × (thresholdAt i ≤ thresholdLimit)
+    pub thresholds-rise : (i : ℕ) → suc i < p .count → thresholdAt i < thresholdAt (suc i)
+    pub allowance-range : (i : ℕ) → i < p .count → (1 ≤ allowanceAt i) × (allowanceAt i ≤ allowanceLimit)
+    pub delay-range : (1 ≤ p .delay) × (p .delay ≤ delayLimit)
+    pub horizon-range : (1 ≤ p .horizon) × (p .horizon ≤ horizonLimit)
+    pub ends-order : (j : ℕ) → j < p .buckets → leftAt j < rightAt j
+    pub not-whole : (j : ℕ) → j < p .buckets → ¬ ((leftAt j ≡ 0) × (rightAt j ≡ million))
+    pub ends-permitted : (j : ℕ) → j < p .buckets → Permitted (leftAt j) × Permitted (rightAt j)
+    pub covered : Covered
+
+-- rule 6 as a test says what it says in words ..
+abbrev pub CoveredTheorem : Type 0
+CoveredTheorem = (p : Plan) → (rule6 p ≡ true) ↔ Covered p
+
+-- .. and a plan has no refusal exactly when it is accepted
+abbrev pub AcceptedTheorem : Type 0
+AcceptedTheorem = (p : Plan) → (planRefusal p ≡ 0) ↔ Accepted p
