@@ -7,7 +7,7 @@ use lib.ListN.{getD-replicate}
 use Rattle.walk.specs.Units.{million}
 use Rattle.walk.proofs.Tests.{test, Le?, le, gt}
 use Rattle.walk.proofs.Searches.{search-only}
-use Rattle.walk.proofs.RecordLaws.{start-record as walk-start, start-not-wide}
+use Rattle.walk.proofs.RecordLaws.{start-not-wide}
 use Rattle.plan.specs.Places.{largestTo, smallestTo}
 use Rattle.plan.specs.Plan.{leftAt, rightAt, Accepted}
 use Rattle.bucket_test.specs.Turn.{startRecord, noRecord, recordAt, wideOpen}
@@ -44,7 +44,7 @@ module _ (p : Plan) (ok : Accepted p) where
 
   start-thin : anyWide p startState ≡ false
   unfolding anyWide startRecord
-  start-thin = none-reads (λ i. wideOpen (recordAt startState i)) (p .count) .1 (λ i l. rw (start-record i l) (rw walk-start at start-not-wide))
+  start-thin = none-reads (λ i. wideOpen (recordAt startState i)) (p .count) .1 (λ i l. rw (start-record i l) start-not-wide)
 
   -- an end is at most a million, so a bucket with left end 0 does not reach it
   none-contains : (j : ℕ) → j < p .buckets → contains p 0 million j ≡ false

@@ -11,7 +11,7 @@ use lib.Seq.{drop-cons}
 use Rattle.walk.specs.Numbers.{le?}
 use Rattle.walk.specs.Units.{million, wide, horizonLimit}
 use Rattle.walk.specs.Spending.{IsSpending}
-use Rattle.walk.specs.Strings.{isOpen}
+use Rattle.walk.specs.Strings.{markOpen}
 use Rattle.walk.specs.Record.{isWide}
 use Rattle.walk.specs.declared.Mark.{Mark}
 use Rattle.walk.specs.declared.Mark.the-variants.{Open, Above, AtMost}
@@ -37,7 +37,7 @@ use Rattle.bucket_test.proofs.TurningLaws.{part-length}
 
 may-turn-by : (E : ℕ → ℕ) (n S a : ℕ) → a ≤ million → IsSpending E → n ≤ horizonLimit
     → (t : Threshold) (part : List ℕ) → length part ≡ wide
-    → (m : Mark) → recordSound (E n) n S m t part ≡ true → (isOpen m && isWide (t .walked)) ≡ false → MayTurn a (E (suc n)) m t part
+    → (m : Mark) → recordSound (E n) n S m t part ≡ true → (markOpen m && isWide (t .walked)) ≡ false → MayTurn a (E (suc n)) m t part
 may-turn-by E n S a threshold spends early t part size Open sound thin =
     steppable E n S (t .walked) part size a threshold spends early thin sound
 may-turn-by E n S a threshold spends early t part size (Above u) sound thin = tt

@@ -9,9 +9,9 @@ use Rattle.walk.specs.Numbers.{le?, lt?}
 use Rattle.walk.specs.Units.{million, wide}
 use Rattle.walk.specs.Spending.{IsSpending}
 use Rattle.walk.specs.Walk.{walk, firstAt, upperAt, NoWideBefore}
-use Rattle.walk.specs.Row.{Row, upper, startRow, rows}
+use Rattle.walk.specs.Row.{Row, upper, rows}
 use Rattle.walk.specs.Strings.{Draws, ones, Side, Upper, Lower, judged, orElse, settled, lastStep}
-use Rattle.walk.specs.Record.{recordOf, padded}
+use Rattle.walk.specs.Record.{recordOf, padded, startPart}
 use Rattle.walk.specs.declared.Mark.{Mark}
 use Rattle.walk.specs.declared.Mark.the-variants.{Open, Above, AtMost}
 use Rattle.walk.specs.declared.Walked.{Walked}
@@ -20,7 +20,7 @@ use Rattle.walk.proofs.RowSteps.{rows-fit}
 use Rattle.walk.proofs.Agreement.{same, in-order, not-wide}
 use Rattle.walk.proofs.Meeting.{last-settled, mark-meets, mark-open}
 use Rattle.walk.proofs.SoundnessLaws.{padded-length, row-back, walk-passes}
-use Rattle.walk.proofs.RecordLaws.{start-record, rows-zero, rows-suc, markOf, verdictOf, mark-cons, verdict-row, verdict-record, open-inside, narrow-next}
+use Rattle.walk.proofs.RecordLaws.{start-walked, start-words, rows-zero, rows-suc, markOf, verdictOf, mark-cons, verdict-row, verdict-record, open-inside, narrow-next}
 use Rattle.bucket_test.specs.Words.{Stands}
 use Rattle.bucket_test.specs.Turn.{startRecord, marked, walkedOn, turnRecord, turnPart, recordSound}
 use Rattle.bucket_test.specs.Demand3.{Marks}
@@ -42,11 +42,11 @@ module _ (a : ℕ) (E : ℕ → ℕ) where
   unfolding recordFor
   mark-for m n = refl
 
-  pub start-for : (recordFor Open 0 ≡ startRecord) × (partFor Open 0 ≡ padded (startRow .masses))
+  pub start-for : (recordFor Open 0 ≡ startRecord) × (partFor Open 0 ≡ startPart)
   unfolding recordFor partFor startRecord
   start-for = (
-    ap (λ (w : Walked). record { mark = Open; walked = w }) (ap recordOf (rows-zero a E) ∙ start-record),
-    ap (λ (r : Row). padded (r .masses)) (rows-zero a E),
+    ap (λ (w : Walked). record { mark = Open; walked = w }) (ap recordOf (rows-zero a E) ∙ start-walked),
+    ap (λ (r : Row). padded (r .masses)) (rows-zero a E) ∙ start-words,
   )
 
   module _ (threshold : a ≤ million) (spends : IsSpending E) where

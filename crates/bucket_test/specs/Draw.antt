@@ -4,8 +4,7 @@ use mathlib.Core.List.{List, [], _∷_}
 use Prim.Native.Nat.{ℕ, zero, suc, _+_}
 use lib.ListN.{replicate}
 use Rattle.walk.specs.Numbers.{le?}
-use Rattle.walk.specs.Row.{startRow}
-use Rattle.walk.specs.Record.{padded}
+use Rattle.walk.specs.Record.{startPart}
 use Rattle.plan.specs.Places.{allTo, unless, firstRefusal, overTo, joinTo}
 use Rattle.plan.specs.Plan.{planRefusal}
 use Rattle.bucket_test.specs.Words.{wordsFit}
@@ -42,7 +41,7 @@ unfoldable pub startState : State
 startState = tenOf startRecord
 
 unfoldable pub startWords : Plan → List ℕ
-startWords p = joinTo (p .count) (λ i. padded (startRow .masses))
+startWords p = joinTo (p .count) (λ i. startPart)
 
 -- no state: zeros in every number, and open marks
 unfoldable pub noState : State

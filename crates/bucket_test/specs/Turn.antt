@@ -2,13 +2,13 @@
 use mathlib.Core.Bool.{Bool, _&&_}
 use mathlib.Core.List.{List}
 use Prim.Native.Nat.{ℕ}
-use lib.IntN.{ℤ, pos, negsuc}
+use lib.IntN.{pos}
 use lib.ListN.{getD}
 use lib.Signed.{leZ}
 use Rattle.walk.specs.Numbers.{le?}
 use Rattle.walk.specs.Row.{Row, stepRow}
-use Rattle.walk.specs.Strings.{judged, isOpen}
-use Rattle.walk.specs.Record.{rowOf, recordOf, isWide, padded}
+use Rattle.walk.specs.Strings.{judged, markOpen}
+use Rattle.walk.specs.Record.{rowOf, recordOf, padded, startWalked, isWide}
 use Rattle.walk.specs.Soundness.{isSound, Steppable}
 use Rattle.walk.specs.declared.Mark.{Mark}
 use Rattle.walk.specs.declared.Mark.the-variants.{Open, Above, AtMost}
@@ -20,22 +20,22 @@ use Rattle.plan.specs.declared.Plan.{Plan}
 use Rattle.bucket_test.specs.declared.Threshold.{Threshold}
 use Rattle.bucket_test.specs.declared.State.{State}
 
--- an open record with these boundaries and nothing spent: that of step 0, and that of a refused beginning, zeros in every number
-abbrev pub openRecord : ℤ → ℕ → Threshold
-openRecord lower upper = record { mark = Open; walked = record { lower = lower; upper = upper; over = 0; under = 0 } }
+-- an open record: that of step 0, and that of a refused beginning, zeros in every number
+abbrev pub openRecord : Walked → Threshold
+openRecord w = record { mark = Open; walked = w }
 
 unfoldable pub startRecord : Threshold
-startRecord = openRecord (negsuc 0) 1
+startRecord = openRecord startWalked
 
 abbrev pub noRecord : Threshold
-noRecord = openRecord (pos 0) 0
+noRecord = openRecord (record { lower = pos 0; upper = 0; over = 0; under = 0 })
 
 abbrev pub recordAt : State → ℕ → Threshold
 recordAt s i = getD (s .records) i noRecord
 
 -- an open threshold that is wide
 abbrev pub wideOpen : Threshold → Bool
-wideOpen t = isOpen (t .mark) && isWide (t .walked)
+wideOpen t = markOpen (t .mark) && isWide (t .walked)
 
 -- S at or over the upper boundary of step n marks it above, S at or under the lower one at most, else it stays open
 unfoldable pub marked : ℕ → ℕ → Walked → Mark

@@ -9,8 +9,9 @@ use crate::answering::answer_of;
 use crate::answering::interval_of;
 use crate::judging::state_sound;
 use plan::rules::plan_refusal;
-use crate::starting::open_state;
+use crate::starting::no_state;
 use crate::starting::start_parts;
+use crate::starting::start_state;
 use crate::turning::turn_all;
 ghost use mathlib.Core.Path.{_≡_};
 ghost use mathlib.Core.Bool.{true, false};
@@ -39,14 +40,14 @@ pub fn begin(p: Plan, words: &mut [u64]) -> Drawn
 {
     let bad = plan_refusal(p);
     if bad > 0 {
-        return refused(bad, open_state(0, 0));
+        return refused(bad, no_state());
     }
     let parts = p.count as usize;
     if words.len() != 769 * parts {
-        return refused(8, open_state(0, 0));
+        return refused(8, no_state());
     }
     start_parts(words, parts);
-    let state = open_state(-1, 1);
+    let state = start_state();
     let answer = answer_of(p, state);
     Drawn {
         answer: answer,

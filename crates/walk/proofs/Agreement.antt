@@ -9,11 +9,11 @@ use native.Mathlib.Nat.{add-zero, add-suc, zero-add, add-sub-cancel-left, add-as
 use native.Mathlib.Omega.{arith}
 use lib.ListN.{length, take, drop, getD, length-take, List·getD-eq-default}
 use lib.Seq.{getD-take, getD-drop, take-all}
-use Rattle.walk.specs.Numbers.{le?, lt?, between, only, sumTo, sum, Smallest, Largest}
+use Rattle.walk.specs.Numbers.{le?, lt?, only, sumTo, sum, Smallest, Largest}
 use Rattle.walk.specs.Units.{M, million, wide}
 use Rattle.walk.specs.Spending.{IsSpending}
 use Rattle.walk.specs.Mass.{massUp}
-use Rattle.walk.specs.Walk.{Walk, below, lower, previous, cellwise, newMass, massFrom, massBelow, FitsUpper, FitsLower, upperBoundary, firstLive, start, absorbed, stepWalk, walk, firstAt, upperAt, wide?, NoWideBefore}
+use Rattle.walk.specs.Walk.{isLive, Walk, below, lower, previous, cellwise, newMass, massFrom, massBelow, FitsUpper, FitsLower, upperBoundary, firstLive, start, absorbed, stepWalk, walk, firstAt, upperAt, wide?, NoWideBefore}
 use Rattle.walk.specs.Row.{Row, upper, byCount, startRow, cellsBy, newMasses, kept, dropped, cut, stepRow, rows, Sound}
 use Rattle.walk.specs.Facts.{asWalk, Same, AgreementTheorem}
 use Rattle.walk.proofs.Tests.{test, Le?, le, gt, le?-complete, le?-fails, only-only, only-fails, only-holds, sum-cong, sum-le, sum-zero}
@@ -185,9 +185,9 @@ module _ (t e f : ℕ) (cs : List ℕ) (fits : f + length cs ≤ suc t) where
 
 -- ---- rule 4
 
-cut-at : (f d m : ℕ) (xs : List ℕ) (c : ℕ) → only (between (f + d) (f + d + m) c) (byCount f xs c) ≡ byCount (f + d) (take m (drop d xs)) c
+cut-at : (f d m : ℕ) (xs : List ℕ) (c : ℕ) → only (isLive (f + d) (f + d + m) c) (byCount f xs c) ≡ byCount (f + d) (take m (drop d xs)) c
 cut-at f d m xs =
-    by-place (f + d) (λ c. only (between (f + d) (f + d + m) c) (byCount f xs c) ≡ byCount (f + d) (take m (drop d xs)) c)
+    by-place (f + d) (λ c. only (isLive (f + d) (f + d + m) c) (byCount f xs c) ≡ byCount (f + d) (take m (drop d xs)) c)
     (λ c h. rw (le?-fails (f + d) c h) (sym (at-below (f + d) (take m (drop d xs)) c h)))
     (λ i.
     rw (at-add (f + d) (take m (drop d xs)) i, le?-complete (f + d) (f + d + i) (omega arith), add-assoc f d i, at-add f xs (d + i))

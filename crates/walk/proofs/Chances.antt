@@ -7,13 +7,13 @@ use native.Mathlib.Nat.{sub-add-cancel, mul-le-mul-right, pow-suc, pow-zero, eq-
 use native.Mathlib.Omega.{arith}
 use borrow.Author.Tests.{not-true}
 use lib.ListN.{length}
-use Rattle.walk.specs.Numbers.{le?, lt?, between, only, sumTo, sum}
+use Rattle.walk.specs.Numbers.{le?, lt?, only, sumTo, sum}
 use Rattle.walk.specs.Units.{M, million}
 use Rattle.walk.specs.Spending.{IsSpending}
 use Rattle.walk.specs.Mass.{reaching}
-use Rattle.walk.specs.Walk.{previous, newMass, massFrom, massBelow, start, absorbed, stepWalk, walk, firstAt, upperAt, NoWideBefore, noWideBefore?}
+use Rattle.walk.specs.Walk.{isLive, previous, newMass, massFrom, massBelow, start, absorbed, stepWalk, walk, firstAt, upperAt, NoWideBefore, noWideBefore?}
 use Rattle.walk.specs.Row.{total, rows, roundedBy}
-use Rattle.walk.specs.Strings.{Draws, weight, Side, Upper, Lower, MeetsFirst, verdict, mark, isOn, isOpen, lastStep, chance}
+use Rattle.walk.specs.Strings.{Draws, weight, Side, Upper, Lower, MeetsFirst, verdict, mark, isOn, markOpen, lastStep, chance}
 use Rattle.walk.specs.Chance.{Meets, meets?, meeting, spent, AllowedTheorem, RoundedChanceTheorem, ChanceTheorem}
 use Rattle.walk.proofs.Tests.{and-true, only-scale, sum-cong, sum-le, sum-mul}
 use Rattle.walk.proofs.Rounding.{mass-ge}
@@ -66,10 +66,10 @@ module _ (a : ℕ) (threshold : a ≤ million) (E : ℕ → ℕ) (spends : IsSpe
   -- ---- one step of the walk, by the verdict on each count
 
   verdicts : (t c : ℕ) → let v = verdict F U t c in
-      (isOpen v ≡ between (F t) (U t) c) × (isOn Upper v ≡ le? (U t) c) × (isOn Lower v ≡ lt? c (F t))
+      (markOpen v ≡ isLive (F t) (U t) c) × (isOn Upper v ≡ le? (U t) c) × (isOn Lower v ≡ lt? c (F t))
   verdicts t c = verdict-tests F U t c (orders t)
 
-  mass-suc : (n c : ℕ) → walk a E (suc n) .mass c ≡ only (isOpen (verdict F U (suc n) c)) (newMass a (walk a E n .mass) c)
+  mass-suc : (n c : ℕ) → walk a E (suc n) .mass c ≡ only (markOpen (verdict F U (suc n) c)) (newMass a (walk a E n .mass) c)
   unfolding walk stepWalk absorbed firstAt upperAt
   mass-suc n c = rw (verdicts (suc n) c .0)
 
@@ -106,7 +106,7 @@ module _ (a : ℕ) (threshold : a ≤ million) (E : ℕ → ℕ) (spends : IsSpe
   live-ge zero c = start-ge c
   live-ge (suc n) c =
       rw (exact-suc a (million - a) F U n c, mass-suc n c, pow-suc million n)
-      (only-scale (isOpen (verdict F U (suc n) c)) _ _ M (million ^ n * million) (cell-ge (walk a E n .mass) (live n) (million ^ n) (live-ge n) c))
+      (only-scale (markOpen (verdict F U (suc n) c)) _ _ M (million ^ n * million) (cell-ge (walk a E n .mass) (live n) (million ^ n) (live-ge n) c))
 
   spent-ge : (side : Side) (n : ℕ) → settledOn side n * M ≤ spent side (walk a E n) * million ^ n
   spent-ge side zero = rw (met-zero a (million - a) F U (isOn side)) (omega arith)

@@ -9,20 +9,20 @@ use native.Mathlib.Omega.{arith}
 use lib.ListN.{length}
 use Rattle.walk.specs.declared.Mark.{Mark}
 use Rattle.walk.specs.declared.Mark.the-variants.{Open}
-use Rattle.walk.specs.Strings.{Draws, ones, count, Side, Upper, Lower, Reaches, MeetsFirst, judged, verdict, orElse, mark, settled, isOn, lastStep}
+use Rattle.walk.specs.Strings.{Draws, ones, onesBy, Side, Upper, Lower, Reaches, MeetsFirst, judged, verdict, orElse, mark, settled, isOn, lastStep}
 use Rattle.walk.proofs.Tests.{Le?, le, gt, test, clash}
 use Rattle.walk.proofs.Exact.{open-off}
 
 -- ---- counts
 
--- a draw more changes no count before it
-pub count-cons : (b : Bool) (s : Draws) (i : ℕ) → i ≤ length s → count (b ∷ s) i ≡ count s i
-unfolding count
-count-cons b s i l = let e : suc (length s) - i ≡ suc (length s - i) = omega arith in rw e
+-- a draw more changes no onesBy before it
+pub ones-by-cons : (b : Bool) (s : Draws) (i : ℕ) → i ≤ length s → onesBy (b ∷ s) i ≡ onesBy s i
+unfolding onesBy
+ones-by-cons b s i l = let e : suc (length s) - i ≡ suc (length s - i) = omega arith in rw e
 
-pub count-all : (s : Draws) → count s (length s) ≡ ones s
-unfolding count
-count-all s = let e : length s - length s ≡ 0 = omega arith in rw e
+pub ones-by-all : (s : Draws) → onesBy s (length s) ≡ ones s
+unfolding onesBy
+ones-by-all s = let e : length s - length s ≡ 0 = omega arith in rw e
 
 -- ---- sides, and the marks settled on them
 
@@ -61,9 +61,9 @@ same-step Lower t u e = cc
 module _ (first upper : ℕ → ℕ) where
   -- before step u the string met no boundary
   abbrev Before : Draws → ℕ → Type 0
-  Before s u = (i : ℕ) → 1 ≤ i → i < u → (first i ≤ count s i) × (count s i < upper i)
+  Before s u = (i : ℕ) → 1 ≤ i → i < u → (first i ≤ onesBy s i) × (onesBy s i < upper i)
 
-  meets-same : {side : Side} {t : ℕ} (s s′ : Draws) → t ≤ length s′ → ((i : ℕ) → i ≤ t → count s′ i ≡ count s i)
+  meets-same : {side : Side} {t : ℕ} (s s′ : Draws) → t ≤ length s′ → ((i : ℕ) → i ≤ t → onesBy s′ i ≡ onesBy s i)
       → MeetsFirst first upper side t s → MeetsFirst first upper side t s′
   meets-same {t = t} s s′ l e h = record {
     from = h .from;
@@ -76,8 +76,8 @@ module _ (first upper : ℕ → ℕ) where
   pub meets-prefix : (side : Side) (b : Bool) (s : Draws) (t : ℕ) → t ≤ length s
       → MeetsFirst first upper side t (b ∷ s) ↔ MeetsFirst first upper side t s
   meets-prefix side b s t l = (
-    meets-same (b ∷ s) s l (λ i k. sym (count-cons b s i (omega arith))),
-    meets-same s (b ∷ s) (omega arith) (λ i k. count-cons b s i (omega arith)),
+    meets-same (b ∷ s) s l (λ i k. sym (ones-by-cons b s i (omega arith))),
+    meets-same s (b ∷ s) (omega arith) (λ i k. ones-by-cons b s i (omega arith)),
   )
 
   -- what the mark of a string says
@@ -94,14 +94,14 @@ module _ (first upper : ℕ → ℕ) where
       n = suc (length s)
 
       earlier : Before s n → Before (b ∷ s) n
-      earlier f i j k = rw (count-cons b s i (omega arith)) (f i j k)
+      earlier f i j k = rw (ones-by-cons b s i (omega arith)) (f i j k)
 
       meets : (side : Side) → Reaches side (first n) (upper n) (ones (b ∷ s)) → Before s n → MeetsFirst first upper side n (b ∷ s)
-      meets side r f = record { from = omega arith; to = omega arith; reaches = rw (count-all (b ∷ s)) r; before = earlier f }
+      meets side r f = record { from = omega arith; to = omega arith; reaches = rw (ones-by-all (b ∷ s)) r; before = earlier f }
 
       inside : first n ≤ ones (b ∷ s) → ones (b ∷ s) < upper n → Before s n
-          → (i : ℕ) → 1 ≤ i → (i ≡ n) ⊎ (i < n) → (first i ≤ count (b ∷ s) i) × (count (b ∷ s) i < upper i)
-      inside h k f i j (inl e) = rw (e, count-all (b ∷ s)) (h, k)
+          → (i : ℕ) → 1 ≤ i → (i ≡ n) ⊎ (i < n) → (first i ≤ onesBy (b ∷ s) i) × (onesBy (b ∷ s) i < upper i)
+      inside h k f i j (inl e) = rw (e, ones-by-all (b ∷ s)) (h, k)
       inside h k f i j (inr l) = earlier f i j l
 
       now : (o u : Bool) → Le? (upper n) (ones (b ∷ s)) o → Le? (suc (ones (b ∷ s))) (first n) u
@@ -124,8 +124,8 @@ module _ (first upper : ℕ → ℕ) where
         → settled side t ≡ settled side′ u
     one-only {side} {side′} {t} {u} {s} h k =
         let e : t ≡ u = omega (arith, late u h (k .before), late t k (h .before)) in
-        let r : Reaches side′ (first t) (upper t) (count s t) = rw e (k .reaches) in
-        cc (same-side side side′ (count s t) (order t) (h .reaches) r)
+        let r : Reaches side′ (first t) (upper t) (onesBy s t) = rw e (k .reaches) in
+        cc (same-side side side′ (onesBy s t) (order t) (h .reaches) r)
 
     meets-mark : {side : Side} {t : ℕ} {s : Draws} → Says s → MeetsFirst first upper side t s → mark first upper s ≡ settled side t
     meets-mark (none e f) h = absurd (omega (arith, h .to, late _ h f))

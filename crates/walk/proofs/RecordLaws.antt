@@ -10,12 +10,12 @@ use lib.IntN.{pos, negsuc}
 use lib.ListN.{length, getD, replicate, length-append}
 use lib.Signed.{leZ}
 use Rattle.walk.specs.Numbers.{le?, lt?, eqZ?}
-use Rattle.walk.specs.Units.{M, million, wide}
+use Rattle.walk.specs.Units.{million, wide}
 use Rattle.walk.specs.Spending.{IsSpending}
 use Rattle.walk.specs.Walk.{Walk, below, lower, firstAt, upperAt, wide?, NoWideBefore}
 use Rattle.walk.specs.Row.{Row, upper, startRow, stepRow, rows}
-use Rattle.walk.specs.Strings.{Draws, ones, Side, Upper, Lower, Reaches, judged, verdict, orElse, mark, settled, isOpen}
-use Rattle.walk.specs.Record.{recordOf, isWide, padded}
+use Rattle.walk.specs.Strings.{Draws, ones, Side, Upper, Lower, Reaches, judged, verdict, orElse, mark, settled, markOpen}
+use Rattle.walk.specs.Record.{recordOf, isWide, padded, startWalked, startPart}
 use Rattle.walk.specs.Facts.{Same}
 use Rattle.walk.specs.declared.Mark.the-variants.{Open, Above, AtMost}
 use Rattle.walk.specs.declared.Mark.{Mark}
@@ -24,17 +24,17 @@ use Rattle.walk.proofs.Boundaries.{under-below}
 use Rattle.walk.proofs.Agreement.{at-add, same, first-at, upper-at, not-wide}
 
 -- step 0, as the code holds it
-pub start-record : recordOf startRow ≡ record { lower = negsuc 0; upper = 1; over = 0; under = 0 }
-unfolding recordOf startRow below
-start-record = refl
+pub start-walked : recordOf startRow ≡ startWalked
+unfolding recordOf startRow below startWalked
+start-walked = refl
 
-pub start-words : padded (startRow .masses) ≡ 4398046511104 ∷ replicate 768 0
-unfolding padded startRow M wide
+pub start-words : padded (startRow .masses) ≡ startPart
+unfolding startRow startPart
 start-words = refl
 
 -- step 0 is not wide
-pub start-not-wide : isWide (recordOf startRow) ≡ false
-unfolding isWide wide? wide recordOf startRow below eqZ?
+pub start-not-wide : isWide startWalked ≡ false
+unfolding isWide wide? wide startWalked eqZ?
 start-not-wide = refl
 
 -- words after the live counts are zero
@@ -131,8 +131,8 @@ module _ (a : ℕ) (E : ℕ → ℕ) where
         go (test (upper (rows a E t)) S) (test (suc S) (rows a E t .first)) (sym (verdict-row t S) ∙ e)
       where
         go : {o u : Bool} → Le? (upper (rows a E t)) S o → Le? (suc S) (rows a E t .first) u → judged t o u ≡ Open → Inside t S
-        go (le h) k e = let z : true ≡ false = cc (ap isOpen e) in clash z
-        go (gt h) (le k) e = let z : true ≡ false = cc (ap isOpen e) in clash z
+        go (le h) k e = let z : true ≡ false = cc (ap markOpen e) in clash z
+        go (gt h) (le k) e = let z : true ≡ false = cc (ap markOpen e) in clash z
         go (gt h) (gt k) e = (omega arith, h)
 
     pub open-inside : (s : Draws) → markOf s ≡ Open → (rows a E (length s) .first ≤ ones s) × (ones s < upper (rows a E (length s)))
@@ -142,8 +142,8 @@ module _ (a : ℕ) (E : ℕ → ℕ) where
       where
         go : (m : Mark) → orElse m (verdictOf (suc (length s)) (ones (b ∷ s))) ≡ Open → Inside (suc (length s)) (ones (b ∷ s))
         go Open f = inside (suc (length s)) (ones (b ∷ s)) f
-        go (Above t) f = let z : true ≡ false = cc (ap isOpen f) in clash z
-        go (AtMost t) f = let z : true ≡ false = cc (ap isOpen f) in clash z
+        go (Above t) f = let z : true ≡ false = cc (ap markOpen f) in clash z
+        go (AtMost t) f = let z : true ≡ false = cc (ap markOpen f) in clash z
 
     -- one more step that is not wide
     pub narrow-next : (n : ℕ) → NoWideBefore a E n → ¬ (length (rows a E n .masses) ≡ wide) → NoWideBefore a E (suc n)

@@ -19,10 +19,6 @@ eqZ? (pos m) (negsuc n) = false
 eqZ? (negsuc m) (pos n) = false
 eqZ? (negsuc m) (negsuc n) = eqb m n
 
--- from lo on and below hi
-abbrev pub between : ℕ → ℕ → ℕ → Bool
-between lo hi c = le? lo c && lt? c hi
-
 -- x where a test passes, else 0
 abbrev pub only : Bool → ℕ → ℕ
 only true x = x

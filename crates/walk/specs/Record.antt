@@ -1,10 +1,10 @@
 -- A row as the code holds it: a record with a signed lower boundary, and the 769 words of the threshold's part.
 use mathlib.Core.Bool.{Bool}
-use mathlib.Core.List.{List, _++_}
+use mathlib.Core.List.{List, [], _∷_, _++_}
 use Prim.Native.Nat.{ℕ, suc, _-_}
 use lib.IntN.{ℤ, pos, negsuc}
 use lib.ListN.{length, take, replicate}
-use Rattle.walk.specs.Units.{wide}
+use Rattle.walk.specs.Units.{M, wide}
 use Rattle.walk.specs.Walk.{below, wide?}
 use Rattle.walk.specs.Row.{Row, upper}
 use Rattle.walk.specs.declared.Walked.{Walked}
@@ -26,9 +26,16 @@ rowOf w words = record {
 unfoldable pub recordOf : Row → Walked
 recordOf r = record { lower = below (r .first); upper = upper r; over = r .over; under = r .under }
 
-unfoldable pub isWide : Walked → Bool
-isWide w = wide? (w .upper) (w .lower)
-
 -- the words of a row: words after the live counts are zero
 unfoldable pub padded : List ℕ → List ℕ
 padded masses = masses ++ replicate (wide - length masses) 0
+
+-- step 0 (rules 3.2): boundaries 1 and -1, nothing spent; count 0 has the whole mass
+unfoldable pub startWalked : Walked
+startWalked = record { lower = negsuc 0; upper = 1; over = 0; under = 0 }
+
+unfoldable pub startPart : List ℕ
+startPart = padded (M ∷ [])
+
+unfoldable pub isWide : Walked → Bool
+isWide w = wide? (w .upper) (w .lower)

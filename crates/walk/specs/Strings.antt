@@ -17,9 +17,9 @@ ones [] = 0
 ones (true ∷ s) = suc (ones s)
 ones (false ∷ s) = ones s
 
--- the ones among the first t draws: the count (01) after step t
-unfoldable pub count : Draws → ℕ → ℕ
-count s t = ones (drop (length s - t) s)
+-- the ones among the first t draws: the count after step t
+unfoldable pub onesBy : Draws → ℕ → ℕ
+onesBy s t = ones (drop (length s - t) s)
 
 -- a string weighs x for each 1 and z for each 0
 abbrev pub weight : ℕ → ℕ → Draws → ℕ
@@ -52,8 +52,8 @@ Reaches Lower first upper c = c < first
 pub record MeetsFirst (first upper : ℕ → ℕ) (side : Side) (t : ℕ) (s : Draws) : Type 0 where
   pub from : 1 ≤ t
   pub to : t ≤ length s
-  pub reaches : Reaches side (first t) (upper t) (count s t)
-  pub before : (i : ℕ) → 1 ≤ i → i < t → (first i ≤ count s i) × (count s i < upper i)
+  pub reaches : Reaches side (first t) (upper t) (onesBy s t)
+  pub before : (i : ℕ) → 1 ≤ i → i < t → (first i ≤ onesBy s i) × (onesBy s i < upper i)
 
 -- ---- the same as a test that computes: the mark of a string. proofs/Meeting shows that between boundaries in order, `first` at most `upper`
 -- at every step, `mark` is Above t exactly when the string meets the upper boundary first at step t, and AtMost t exactly when so the lower.
@@ -90,10 +90,10 @@ isOn Lower (Above t) = false
 isOn Lower (AtMost t) = true
 isOn Lower Open = false
 
-abbrev pub isOpen : Mark → Bool
-isOpen Open = true
-isOpen (Above t) = false
-isOpen (AtMost t) = false
+abbrev pub markOpen : Mark → Bool
+markOpen Open = true
+markOpen (Above t) = false
+markOpen (AtMost t) = false
 
 -- the last step walked, after n draws: an open threshold's is n, a settled one's the step where the draws first met a boundary
 abbrev pub lastStep : Mark → ℕ → ℕ

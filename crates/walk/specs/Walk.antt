@@ -3,7 +3,7 @@ use mathlib.Core.Path.{_≡_}
 use mathlib.Core.Bool.{Bool, true, false, not, _&&_}
 use Prim.Native.Nat.{ℕ, zero, suc, _+_, _≤_, _<_}
 use lib.IntN.{ℤ, pos, negsuc, _-ℤ_}
-use Rattle.walk.specs.Numbers.{le?, lt?, eqZ?, between, only, sumTo, searchUp, searchDown}
+use Rattle.walk.specs.Numbers.{le?, lt?, eqZ?, only, sumTo, searchUp, searchDown}
 use Rattle.walk.specs.Units.{M, wide}
 use Rattle.walk.specs.Mass.{massUp}
 
@@ -20,6 +20,10 @@ pub record Walk : Type 0 where
   -- the upper and the lower spent mass
   pub over : ℕ
   pub under : ℕ
+
+-- a count c strictly between the boundaries: from `first` on and below `upper`
+abbrev pub isLive : ℕ → ℕ → ℕ → Bool
+isLive first upper c = le? first c && lt? c upper
 
 -- (01: lower bar)
 unfoldable pub lower : Walk → ℤ
@@ -69,7 +73,7 @@ unfoldable pub absorbed : ℕ → (ℕ → ℕ) → ℕ → ℕ → Walk → Wal
 absorbed t g first upper w = record {
   first = first;
   upper = upper;
-  mass = λ c. only (between first upper c) (g c);
+  mass = λ c. only (isLive first upper c) (g c);
   over = w .over + massFrom t g upper;
   under = w .under + massBelow t g first;
 }

@@ -1,9 +1,14 @@
 // One new mass (01, "The walk of one threshold", rule 1).
 
+use crate::MILLION;
 ghost use mathlib.Core.Path.{_≡_};
 ghost use Prim.Native.Nat.{_≤_};
 ghost use Rattle.walk.specs.Units.{million, massLimit};
 ghost use Rattle.walk.specs.Mass.{massUp};
+
+// A unit in millionths, and the most that is less.
+const UNIT: u64 = MILLION as u64;
+const LESS: u64 = UNIT - 1;
 
 // The mass that stays at a count with each draw 0 and the mass that comes from the count before with each draw 1: their sum is rounded
 // up once, so that no mass is lost. Live words are at most 2^43.
@@ -12,7 +17,7 @@ pub(crate) fn mass_up(a: u32, stay: u64, come: u64) -> u64
     ensures { λ r. ⌜ r ≡ massUp a stay come ⌝ }
 {
     let up = a as u64;
-    let stays = stay * (1000000 - up);
+    let stays = stay * (UNIT - up);
     let comes = come * up;
-    (stays + comes + 999999) / 1000000
+    (stays + comes + LESS) / UNIT
 }

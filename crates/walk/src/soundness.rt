@@ -1,5 +1,8 @@
 // Whether a state that was handed in may be walked on (01, refusal 11, of an open threshold).
 
+use crate::M;
+use crate::MASS_LIMIT;
+use crate::WIDE;
 use crate::Walked;
 use std::num::wrapping_add_u64;
 ghost use mathlib.Core.Path.{_≡_};
@@ -11,6 +14,11 @@ ghost use Rattle.walk.specs.Units.{M, massLimit, wide};
 ghost use Rattle.walk.specs.Walk.{below};
 ghost use Rattle.walk.specs.Record.{firstAbove, isWide};
 ghost use Rattle.walk.specs.Soundness.{boundariesSound, isSound};
+
+// How far apart the boundaries of a wide walk are; what `all_fit` adds to a word, and what tells then.
+const WIDE_APART: i64 = WIDE as i64 + 1;
+const BELOW_LIMIT: u64 = MASS_LIMIT - 1;
+const TWICE_LIMIT: u64 = 2 * MASS_LIMIT;
 
 // What refusal 11 asks of the boundaries and the spent masses, in its order. Differences are taken in 64 bits, where none overflows.
 fn boundaries_sound(w: Walked, n: u32, ones: u32, e: u64) -> bool
@@ -26,7 +34,7 @@ fn boundaries_sound(w: Walked, n: u32, ones: u32, e: u64) -> bool
     if apart < 2 {
         return false;
     }
-    if apart > 770 {
+    if apart > WIDE_APART {
         return false;
     }
     if ones as i64 <= w.lower as i64 {
@@ -49,10 +57,10 @@ fn all_fit(words: &[u64]) -> bool
     let mut i = 0;
     while i < words.len() {
         let x = words[i];
-        seen |= x | wrapping_add_u64(x, 8796093022207);
+        seen |= x | wrapping_add_u64(x, BELOW_LIMIT);
         i += 1;
     }
-    seen < 17592186044416
+    seen < TWICE_LIMIT
 }
 
 // The words' sum: so many words that fit cannot overflow.
@@ -73,10 +81,10 @@ fn sum_up(words: &[u64]) -> u64
 fn is_whole(live: u64, over: u64, under: u64) -> bool
     ensures { λ r. ⌜ r ≡ le? M (live + over + under) ⌝ }
 {
-    if live >= 4398046511104 {
+    if live >= M {
         return true;
     }
-    let missing = 4398046511104 - live;
+    let missing = M - live;
     if over >= missing {
         return true;
     }
@@ -111,5 +119,5 @@ pub fn is_sound(part: &[u64], w: Walked, n: u32, ones: u32, e: u64) -> bool
 pub fn is_wide(w: Walked) -> bool
     ensures { λ r. ⌜ r ≡ isWide w ⌝ }
 {
-    w.upper as i64 - w.lower as i64 == 770
+    w.upper as i64 - w.lower as i64 == WIDE_APART
 }

@@ -5,8 +5,7 @@ use native.Mathlib.Omega.{arith}
 use lib.ListN.{length}
 use Rattle.walk.specs.Units.{wide}
 use Rattle.plan.specs.Plan.{planRefusal}
-use Rattle.bucket_test.specs.Turn.{startRecord}
-use Rattle.bucket_test.specs.Draw.{startState, startWords, noState}
+use Rattle.bucket_test.specs.Draw.{startWords}
 use Rattle.bucket_test.proofs.PartLaws.{words-say}
 use Rattle.bucket_test.proofs.DrawingLaws.{places, hands, words-do-not, begun-plan, begun-8, begun-0}
 use borrow.Author.Needs.{needs}
@@ -24,17 +23,16 @@ long c = c .if2 .left
 plan-refusal-requires : tie.Need-plan-refusal-requires
 plan-refusal-requires c κs = search needs
 
-open-state-requires : tie.Need-open-state-requires
-open-state-requires c κs = search needs
+no-state-requires : tie.Need-no-state-requires
+no-state-requires c κs = search needs
 
 refused-requires : tie.Need-refused-requires
 refused-requires c κs = search needs
 
 returns : tie.Need-returns
-unfolding noState
 returns c =
     let r = c .before .before .before .plan-refusal in
-    hands (begun-plan _ _ (r .result) (r .ensures) (c .before .before .if1 .taken)) (c .refused .ensures ∙ rw (c .before .open-state .ensures)) refl
+    hands (begun-plan _ _ (r .result) (r .ensures) (c .before .before .if1 .taken)) (c .refused .ensures ∙ rw (c .before .no-state .ensures)) refl
 
 cast-parts : tie.Need-cast-parts
 cast-parts c = search needs
@@ -42,23 +40,23 @@ cast-parts c = search needs
 mul-if2 : tie.Need-mul-if2
 mul-if2 c = search needs
 
-open-state-requires-2 : tie.Need-open-state-requires-2
-open-state-requires-2 c κs = search needs
+no-state-requires-2 : tie.Need-no-state-requires-2
+no-state-requires-2 c κs = search needs
 
 refused-requires-2 : tie.Need-refused-requires-2
 refused-requires-2 c κs = search needs
 
 returns-2 : tie.Need-returns-2
-unfolding wide noState
+unfolding wide
 returns-2 c =
     hands (begun-8 _ _ (good (c .before .before .before .before)) (words-do-not _ _ (c .before .before .if2 .taken)))
-    (c .refused2 .ensures ∙ rw (c .before .open-state2 .ensures)) refl
+    (c .refused2 .ensures ∙ rw (c .before .no-state2 .ensures)) refl
 
 start-parts-requires : tie.Need-start-parts-requires
 start-parts-requires c κs = (places _ (good (c .before .before .before)) .0, long (c .before))
 
-open-state-requires-3 : tie.Need-open-state-requires-3
-open-state-requires-3 c κs = search needs
+start-state-requires : tie.Need-start-state-requires
+start-state-requires c κs = search needs
 
 answer-of-requires : tie.Need-answer-of-requires
 answer-of-requires c κs = places _ (good (c .before .before .before .before .before .before .before))
@@ -67,10 +65,10 @@ same-length : tie.Need-same-length
 same-length c = search needs
 
 returns-3 : tie.Need-returns-3
-unfolding startState startRecord startWords
+unfolding startWords
 returns-3 c =
     let l = c .before .before .before .before .before .before in
-    hands (begun-0 _ _ (good (l .before .before)) (words-say _ _ .1 (long l))) (rw (c .answer-of .ensures, c .before .open-state3 .ensures))
+    hands (begun-0 _ _ (good (l .before .before)) (words-say _ _ .1 (long l))) (rw (c .answer-of .ensures, c .before .start-state .ensures))
     (c .before .before .before .before .start-parts .ensures)
 
 pub begin-spec : {M : Type 1} → statement M
@@ -78,16 +76,16 @@ begin-spec =
     tie.close
     (tie.spec
     plan-refusal-requires
-    open-state-requires
+    no-state-requires
     refused-requires
     returns
     cast-parts
     mul-if2
-    open-state-requires-2
+    no-state-requires-2
     refused-requires-2
     returns-2
     start-parts-requires
-    open-state-requires-3
+    start-state-requires
     answer-of-requires
     same-length
     returns-3)

@@ -5,8 +5,7 @@ use Prim.Native.Nat.{ℕ, _*_, _-_, _≤_}
 use native.Mathlib.Omega.{arith}
 use lib.ListN.{length, drop}
 use Rattle.walk.specs.Units.{wide}
-use Rattle.walk.specs.Row.{startRow}
-use Rattle.walk.specs.Record.{padded}
+use Rattle.walk.specs.Record.{startPart}
 use Rattle.plan.specs.Places.{joinTo}
 use Rattle.bucket_test.proofs.TurningLaws.{part-length, part-lent, words-none, words-all, part-put}
 use borrow.Author.Needs.{needs}
@@ -14,7 +13,7 @@ use Rattle.bucket_test.proofs.starting.start_parts.Statement.{statement
 use Rattle.bucket_test.proofs.starting.start_parts.Tie as tie
 
 abbrev startAt : ℕ → List ℕ
-startAt i = padded (startRow .masses)
+startAt i = startPart
 
 abbrev Inv-loop : tie.InvT-loop
 Inv-loop words₀ count i₀ words i =

@@ -1,0 +1,26 @@
+-- Zeros in every word; then the first is the whole mass.
+use mathlib.Core.Path.{refl}
+use native.Mathlib.Omega.{arith}
+use borrow.Author.Needs.{needs}
+use Rattle.walk.specs.Units.{M, wide}
+use Rattle.walk.specs.Record.{padded, startPart}
+use Rattle.walk.proofs.starting.start_part.Statement.{statement}
+use Rattle.walk.proofs.starting.start_part.Tie as tie
+
+clear-from-requires : tie.Need-clear-from-requires
+clear-from-requires c κs = search needs
+
+slice-write-part : tie.Need-slice-write-part
+unfolding wide
+slice-write-part c =
+    rw (c .before .before .clear-from .ensures, c .before .before .before .before .before .pre) (omega arith)
+
+same-length : tie.Need-same-length
+same-length c = search needs
+
+returns : tie.Need-returns
+unfolding startPart padded M wide
+returns c = rw (c .before .before .clear-from .ensures, c .before .before .before .before .before .pre)
+
+pub start-part-spec : {M : Type 1} → statement M
+start-part-spec = tie.close (tie.spec clear-from-requires slice-write-part same-length returns)
