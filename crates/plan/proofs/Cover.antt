@@ -6,20 +6,20 @@ use Prim.Native.Nat.{ℕ, zero, suc, _+_, _*_, _≤_, _<_}
 use native.Mathlib.Nat.{mul-le-mul-right, lt-of-le-of-lt}
 use native.Mathlib.Omega.{arith}
 use Rattle.walk.specs.Units.{million}
-use Rattle.plan.specs.Plan.{leftAt, rightAt, goesOnAt, rule6, Holds, Covered, CoveredTheorem}
+use Rattle.plan.specs.Plan.{leftAt, rightAt, coveredAbove, rule6, Holds, Covered, CoveredTheorem}
 use Rattle.plan.specs.declared.Plan.{Plan}
 use Rattle.plan.proofs.PlaceLaws.{both, either, le-or-lt, le-reads, eq-reads, all-say, any-say}
 
 module _ (p : Plan) where
-  -- some bucket goes on at e
+  -- some bucket covers what lies just above e
   abbrev Next : ℕ → Type 0
   Next e = (j : ℕ) × (j < p .buckets) × ((leftAt p j ≤ e) × (e < rightAt p j))
 
-  goes-on-says : (e : ℕ) → (goesOnAt p e ≡ true) ↔ ((million ≤ e) ⊎ Next e)
-  unfolding goesOnAt
-  goes-on-says e = either (le-reads million e) (any-say _ (λ j. both (le-reads (leftAt p j) e) (le-reads (suc e) (rightAt p j))) (p .buckets))
+  covered-says : (e : ℕ) → (coveredAbove p e ≡ true) ↔ ((million ≤ e) ⊎ Next e)
+  unfolding coveredAbove
+  covered-says e = either (le-reads million e) (any-say _ (λ j. both (le-reads (leftAt p j) e) (le-reads (suc e) (rightAt p j))) (p .buckets))
 
-  -- the test in words: some bucket begins at 0, and at each right end below 1,000,000 some bucket goes on
+  -- the test in words: some bucket begins at 0, and what lies just above each right end below 1,000,000 is covered
   abbrev Begun : Type 0
   Begun = (j : ℕ) × (j < p .buckets) × (leftAt p j ≡ 0)
 
@@ -28,7 +28,7 @@ module _ (p : Plan) where
 
   rule6-says : (rule6 p ≡ true) ↔ (Begun × Chained)
   unfolding rule6
-  rule6-says = both (any-say _ (λ j. eq-reads (leftAt p j) 0) (p .buckets)) (all-say _ (λ j. goes-on-says (rightAt p j)) (p .buckets))
+  rule6-says = both (any-say _ (λ j. eq-reads (leftAt p j) 0) (p .buckets)) (all-say _ (λ j. covered-says (rightAt p j)) (p .buckets))
 
   abbrev Held : ℕ → ℕ → Type 0
   Held x y = (j : ℕ) × (j < p .buckets) × Holds p x y j

@@ -79,6 +79,13 @@ eq?-false = eqb-false
 pub eq-reads : (m n : ℕ) → (eq? m n ≡ true) ↔ (m ≡ n)
 eq-reads m n = (eq?-sound m n, eq?-complete m n)
 
+pub eq?-swap : (m n : ℕ) → eq? m n ≡ eq? n m
+eq?-swap m n = go (eq? m n) refl
+  where
+    go : (b : Bool) → eq? m n ≡ b → b ≡ eq? n m
+    go true e = sym (eq?-complete n m (sym (eq?-sound m n e)))
+    go false e = sym (eq?-fails n m (λ h. eq?-false m n e (sym h)))
+
 pub within-reads : (lo hi x : ℕ) → (within lo hi x ≡ true) ↔ ((lo ≤ x) × (x ≤ hi))
 within-reads lo hi x = both (le-reads lo x) (le-reads x hi)
 
@@ -99,20 +106,6 @@ module _ (pass : ℕ → Bool) where
   pub any-suc : (n : ℕ) → anyTo (suc n) pass ≡ (anyTo n pass || pass n)
   unfolding anyTo
   any-suc n = refl
-
-  -- the same in a loop that has tested the places below n
-  pub all-next : (n : ℕ) → allTo n pass ≡ true → pass n ≡ true → allTo (n + 1) pass ≡ true
-  all-next n e h = rw (add-one n, all-suc n, e) h
-
-  pub any-next : (n : ℕ) → anyTo n pass ≡ false → pass n ≡ false → anyTo (n + 1) pass ≡ false
-  any-next n e h = rw (add-one n, any-suc n, e) h
-
-  -- and that has tested them all
-  pub all-done : (n i : ℕ) → i ≤ n → n ≤ i → allTo i pass ≡ true → true ≡ allTo n pass
-  all-done n i h k e = let z : n ≡ i = omega arith in rw z (sym e)
-
-  pub any-done : (n i : ℕ) → i ≤ n → n ≤ i → anyTo i pass ≡ false → false ≡ anyTo n pass
-  any-done n i h k e = let z : n ≡ i = omega arith in rw z (sym e)
 
   -- what the places say
   module _ {P : ℕ → Type 0} (reads : (i : ℕ) → (pass i ≡ true) ↔ P i) where
@@ -172,6 +165,43 @@ module _ (pass : ℕ → Bool) where
       off : (b : Bool) → (b ≡ true → b ≡ false) → b ≡ false
       off true f = f refl
       off false f = refl
+
+-- ---- a loop that looks for a place whose test is b: false where every place has to pass, true where some place has to
+
+abbrev pub swept : Bool → ℕ → (ℕ → Bool) → Bool
+swept false n pass = allTo n pass
+swept true n pass = anyTo n pass
+
+-- where it stands at place i: none was found below i
+pub record Sought (b : Bool) (pass : ℕ → Bool) (n i : ℕ) : Type 0 where
+  pub inside : i ≤ n
+  pub none : (j : ℕ) → j < i → pass j ≡ not b
+
+module _ (b : Bool) (pass : ℕ → Bool) {n : ℕ} where
+  pub sought-none : Sought b pass n 0
+  sought-none = record { inside = omega arith; none = λ j l. absurd (omega arith) }
+
+  module _ {i : ℕ} (s : Sought b pass n i) where
+    pub sought-next : i < n → pass i ≡ not b → Sought b pass n (i + 1)
+    sought-next l e = record {
+      inside = omega arith;
+      none = λ j k. ⊎-elim (λ q. let z : j ≡ i = omega arith in rw z e) (λ m. s .none j (omega arith)) (eq-or-lt-of-le k);
+    }
+
+    -- it is found at i, or nowhere
+    pub sought-here : i < n → pass i ≡ b → b ≡ swept b n pass
+    sought-here = go b
+      where
+        go : (b : Bool) → i < n → pass i ≡ b → b ≡ swept b n pass
+        go true l e = sym (any-holds pass n i l e)
+        go false l e = sym (all-fails pass n i l e)
+
+    pub sought-nowhere : n ≤ i → not b ≡ swept b n pass
+    sought-nowhere h = let z : i ≡ n = omega (arith, s .inside) in go b (λ j l. s .none j (omega arith))
+      where
+        go : (b : Bool) → ((j : ℕ) → j < n → pass j ≡ not b) → not b ≡ swept b n pass
+        go true f = sym (none-reads pass n .1 f)
+        go false f = sym (all-reads pass n .1 f)
 
 -- ---- two families that agree at each place below n
 

@@ -8,7 +8,7 @@ use lib.ListN.{getD}
 use Rattle.walk.specs.Numbers.{le?}
 use Rattle.walk.specs.Units.{million}
 use Rattle.plan.specs.Places.{eq?}
-use Rattle.plan.specs.Plan.{thresholdAt, allowanceAt, leftAt, rightAt, spendingOf, rule1, aboveBefore, rule2, rule3, rule4, permitted, bucketFits, rule5, goesOnAt, rule6, planRefusal}
+use Rattle.plan.specs.Plan.{thresholdAt, allowanceAt, leftAt, rightAt, spendingOf, rule1, aboveBefore, rule2, rule3, rule4, permitted, bucketFits, rule5, coveredAbove, rule6, planRefusal}
 use Rattle.plan.specs.SameCounted.{SameCounted, SameRules, SameRulesTheorem}
 use Rattle.plan.specs.declared.Plan.{Plan}
 use Rattle.plan.proofs.PlaceLaws.{all-cong, any-cong}
@@ -63,15 +63,15 @@ module _ (p : Plan) (thresholds allowances left right : List ℕ)
   unfolding rule5 bucketFits
   rule5-same = all-cong (p .buckets) _ _ (λ j l. rw (ends j l .0, ends j l .1, permitted-same (leftAt p j), permitted-same (rightAt p j)))
 
-  goes-same : (e : ℕ) → goesOnAt q e ≡ goesOnAt p e
-  unfolding goesOnAt
-  goes-same e = ap (λ (b : Bool). le? million e || b) (any-cong (p .buckets) _ _ (λ j l. rw (ends j l .0, ends j l .1)))
+  above-same : (e : ℕ) → coveredAbove q e ≡ coveredAbove p e
+  unfolding coveredAbove
+  above-same e = ap (λ (b : Bool). le? million e || b) (any-cong (p .buckets) _ _ (λ j l. rw (ends j l .0, ends j l .1)))
 
   rule6-same : rule6 q ≡ rule6 p
   unfolding rule6
   rule6-same =
       and-cong (any-cong (p .buckets) _ _ (λ j l. rw (ends j l .0)))
-      (all-cong (p .buckets) _ _ (λ j l. rw (ends j l .1, goes-same (rightAt p j))))
+      (all-cong (p .buckets) _ _ (λ j l. rw (ends j l .1, above-same (rightAt p j))))
 
   refusal-same : planRefusal q ≡ planRefusal p
   unfolding planRefusal rule1 rule4

@@ -84,11 +84,11 @@ module _ (p : Plan) where
 
   -- 6: every p from 0 to 1 lies in some bucket. As a test: some bucket begins at 0, and at each right end below 1,000,000 some bucket
   -- goes on. proofs/Cover shows that the test passes exactly when every fraction lies in some bucket (`Covered`, below).
-  unfoldable pub goesOnAt : ℕ → Bool
-  goesOnAt e = le? million e || anyTo (p .buckets) (λ i. le? (leftAt i) e && lt? e (rightAt i))
+  unfoldable pub coveredAbove : ℕ → Bool
+  coveredAbove e = le? million e || anyTo (p .buckets) (λ i. le? (leftAt i) e && lt? e (rightAt i))
 
   unfoldable pub rule6 : Bool
-  rule6 = anyTo (p .buckets) (λ j. eq? (leftAt j) 0) && allTo (p .buckets) (λ j. goesOnAt (rightAt j))
+  rule6 = anyTo (p .buckets) (λ j. eq? (leftAt j) 0) && allTo (p .buckets) (λ j. coveredAbove (rightAt j))
 
   -- ---- the refusal of a plan, 0 for an accepted one: 1 to 6, each number over all entries before the next
 

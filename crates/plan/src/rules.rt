@@ -1,10 +1,20 @@
-// The plan's rules: refusals 1 to 6 in their order, each over all entries before the next (01, "Order").
+// The plan's rules: refusals 1 to 6 in their order, each over all entries before the next (rules 1.4, 8.2).
 ghost use mathlib.Core.Path.{_≡_};
 ghost use Prim.Native.Nat.{ℕ, _≤_};
-ghost use lib.ListN.{getD};
+ghost use lib.ListN.{length, getD};
 ghost use Rattle.plan.specs.Places.{eq?, within, allTo, anyTo};
-ghost use Rattle.plan.specs.Plan.{countsFit, leftAt, rightAt, rule2, rule3, rule4, permitted, bucketFits, rule5, goesOnAt, rule6, planRefusal};
+ghost use Rattle.plan.specs.Plan.{countLimit, bucketLimit, countsFit, leftAt, rightAt, rule2, rule3, rule4, permitted, bucketFits, rule5, coveredAbove, rule6, planRefusal};
+use crate::BUCKET_LIMIT;
+use crate::COUNT_LIMIT;
+use crate::DELAY_LIMIT;
 use crate::Plan;
+use crate::THRESHOLD_LIMIT;
+use walk::ALLOWANCE_LIMIT;
+use walk::HORIZON_LIMIT;
+use walk::MILLION;
+
+const MOST_THRESHOLDS: u32 = COUNT_LIMIT as u32;
+const MOST_BUCKETS: u32 = BUCKET_LIMIT as u32;
 
 // From lo to hi, both included.
 pub fn in_range(x: u32, lo: u32, hi: u32) -> bool
@@ -17,12 +27,12 @@ pub fn in_range(x: u32, lo: u32, hi: u32) -> bool
 pub fn counts_fit(count: u32, buckets: u32) -> bool
     ensures { λ r. ⌜ r ≡ countsFit count buckets ⌝ }
 {
-    in_range(count, 1, 10) && in_range(buckets, 2, 16)
+    in_range(count, 1, MOST_THRESHOLDS) && in_range(buckets, 2, MOST_BUCKETS)
 }
 
 // Rule 2: each threshold in its range and above the one before. Judged after rule 1, which keeps the places inside the array.
 fn thresholds_rise(p: Plan) -> bool
-    requires { ⌜ p .count ≤ 10 ⌝ }
+    requires { ⌜ p .count ≤ countLimit ⌝ }
     ensures { λ r. ⌜ r ≡ rule2 p ⌝ }
 {
     let k = p.count as usize;
@@ -32,7 +42,7 @@ fn thresholds_rise(p: Plan) -> bool
         if t <= before {
             return false;
         }
-        if 999999 < t {
+        if THRESHOLD_LIMIT < t {
             return false;
         }
         before = t;
@@ -42,7 +52,7 @@ fn thresholds_rise(p: Plan) -> bool
 
 // Rule 3: each allowance in its range, below one half. Judged after rule 1.
 fn allowances_fit(p: Plan) -> bool
-    requires { ⌜ p .count ≤ 10 ⌝ }
+    requires { ⌜ p .count ≤ countLimit ⌝ }
     ensures { λ r. ⌜ r ≡ rule3 p ⌝ }
 {
     let k = p.count as usize;
@@ -51,7 +61,7 @@ fn allowances_fit(p: Plan) -> bool
         if x < 1 {
             return false;
         }
-        if 2199023255551 < x {
+        if ALLOWANCE_LIMIT < x {
             return false;
         }
     }
@@ -62,16 +72,16 @@ fn allowances_fit(p: Plan) -> bool
 fn times_fit(p: Plan) -> bool
     ensures { λ r. ⌜ r ≡ rule4 p ⌝ }
 {
-    in_range(p.delay, 1, 65535) && in_range(p.horizon, 1, 50000)
+    in_range(p.delay, 1, DELAY_LIMIT) && in_range(p.horizon, 1, HORIZON_LIMIT)
 }
 
-// Whether e is one of the first k thresholds, of at most ten.
-fn is_threshold(ts: &[u32; 10], k: usize, e: u32) -> bool
-    requires { ⌜ k ≤ 10 ⌝ }
-    ensures { λ r. ⌜ r ≡ anyTo k (λ i. eq? e (getD (now (ts .entry)) i 0)) ⌝ }
+// Whether x is one of the first n numbers of a table.
+fn is_among(xs: &[u32], n: usize, x: u32) -> bool
+    requires { ⌜ n ≤ length (now xs) ⌝ }
+    ensures { λ r. ⌜ r ≡ anyTo n (λ i. eq? x (getD (now (xs .entry)) i 0)) ⌝ }
 {
-    for i in 0..k {
-        if e == ts[i] {
+    for i in 0..n {
+        if x == xs[i] {
             return true;
         }
     }
@@ -79,29 +89,29 @@ fn is_threshold(ts: &[u32; 10], k: usize, e: u32) -> bool
 }
 
 // Whether an end is permitted in a plan with the first k of these thresholds, of at most ten: 0, 1,000,000 or a threshold.
-fn is_permitted(ts: &[u32; 10], k: usize, e: u32) -> bool
-    requires { ⌜ k ≤ 10 ⌝ }
+fn is_permitted(ts: &[u32; COUNT_LIMIT], k: usize, e: u32) -> bool
+    requires { ⌜ k ≤ countLimit ⌝ }
     ensures { λ r. ⌜ ((p : Plan) → p .count ≡ k → p .thresholds ≡ now (ts .entry) → r ≡ permitted p e) ⌝ }
 {
     if e == 0 {
         return true;
     }
-    if e == 1000000 {
+    if e == MILLION {
         return true;
     }
-    is_threshold(ts, k, e)
+    is_among(ts, k, e)
 }
 
 // Whether a bucket fits a plan with the first k of these thresholds, of at most ten: left end below right end, not the whole of 0 to
 // 1,000,000, and both ends permitted.
-fn bucket_fits(ts: &[u32; 10], k: usize, left: u32, right: u32) -> bool
-    requires { ⌜ k ≤ 10 ⌝ }
+fn bucket_fits(ts: &[u32; COUNT_LIMIT], k: usize, left: u32, right: u32) -> bool
+    requires { ⌜ k ≤ countLimit ⌝ }
     ensures { λ r. ⌜ ((p : Plan) (j : ℕ) → p .count ≡ k → p .thresholds ≡ now (ts .entry) → leftAt p j ≡ left → rightAt p j ≡ right → r ≡ bucketFits p j) ⌝ }
 {
     if right <= left {
         return false;
     }
-    if left == 0 && right == 1000000 {
+    if left == 0 && right == MILLION {
         return false;
     }
     is_permitted(ts, k, left) && is_permitted(ts, k, right)
@@ -109,7 +119,7 @@ fn bucket_fits(ts: &[u32; 10], k: usize, left: u32, right: u32) -> bool
 
 // Rule 5: each bucket fits. Judged after rule 1.
 fn buckets_fit(p: Plan) -> bool
-    requires { ⌜ (p .count ≤ 10) × (p .buckets ≤ 16) ⌝ }
+    requires { ⌜ (p .count ≤ countLimit) × (p .buckets ≤ bucketLimit) ⌝ }
     ensures { λ r. ⌜ r ≡ rule5 p ⌝ }
 {
     let k = p.count as usize;
@@ -124,28 +134,13 @@ fn buckets_fit(p: Plan) -> bool
     true
 }
 
-// Rule 6, at 0: some bucket begins there. Judged after rule 1.
-fn begins_at_zero(p: Plan) -> bool
-    requires { ⌜ p .buckets ≤ 16 ⌝ }
-    ensures { λ r. ⌜ r ≡ anyTo (p .buckets) (λ j. eq? (leftAt p j) 0) ⌝ }
+// Whether what lies just above e is covered by the first b of these buckets, of at most sixteen: e is at the top, or a bucket begins at or
+// below it and ends above it.
+fn covered_above<'a>(ls: &'a [u32; BUCKET_LIMIT], rs: &'a [u32; BUCKET_LIMIT], b: usize, e: u32) -> bool
+    requires { ⌜ b ≤ bucketLimit ⌝ }
+    ensures { λ r. ⌜ ((p : Plan) → p .buckets ≡ b → p .left ≡ now (ls .entry) → p .right ≡ now (rs .entry) → r ≡ coveredAbove p e) ⌝ }
 {
-    let b = p.buckets as usize;
-    for j in 0..b {
-        let left = p.left[j];
-        if left == 0 {
-            return true;
-        }
-    }
-    false
-}
-
-// Whether a plan with the first b of these buckets, of at most sixteen, goes on at e: e is at the top, or a bucket begins at or below it and
-// ends above it.
-fn goes_on<'a>(ls: &'a [u32; 16], rs: &'a [u32; 16], b: usize, e: u32) -> bool
-    requires { ⌜ b ≤ 16 ⌝ }
-    ensures { λ r. ⌜ ((p : Plan) → p .buckets ≡ b → p .left ≡ now (ls .entry) → p .right ≡ now (rs .entry) → r ≡ goesOnAt p e) ⌝ }
-{
-    if 1000000 <= e {
+    if MILLION <= e {
         return true;
     }
     for i in 0..b {
@@ -156,15 +151,15 @@ fn goes_on<'a>(ls: &'a [u32; 16], rs: &'a [u32; 16], b: usize, e: u32) -> bool
     false
 }
 
-// Rule 6, past 0: the plan goes on at each right end. Judged after rule 1.
-fn right_ends_go_on(p: Plan) -> bool
-    requires { ⌜ p .buckets ≤ 16 ⌝ }
-    ensures { λ r. ⌜ r ≡ allTo (p .buckets) (λ j. goesOnAt p (rightAt p j)) ⌝ }
+// Rule 6, past 0: what lies just above each right end is covered. Judged after rule 1.
+fn right_ends_covered(p: Plan) -> bool
+    requires { ⌜ p .buckets ≤ bucketLimit ⌝ }
+    ensures { λ r. ⌜ r ≡ allTo (p .buckets) (λ j. coveredAbove p (rightAt p j)) ⌝ }
 {
     let b = p.buckets as usize;
     for j in 0..b {
         let e = p.right[j];
-        if !goes_on(&p.left, &p.right, b, e) {
+        if !covered_above(&p.left, &p.right, b, e) {
             return false;
         }
     }
@@ -173,10 +168,11 @@ fn right_ends_go_on(p: Plan) -> bool
 
 // Rule 6: every p from 0 to 1 lies in some bucket. Judged after rule 1.
 fn buckets_cover(p: Plan) -> bool
-    requires { ⌜ p .buckets ≤ 16 ⌝ }
+    requires { ⌜ p .buckets ≤ bucketLimit ⌝ }
     ensures { λ r. ⌜ r ≡ rule6 p ⌝ }
 {
-    begins_at_zero(p) && right_ends_go_on(p)
+    let b = p.buckets as usize;
+    is_among(&p.left, b, 0) && right_ends_covered(p)
 }
 
 // The refusal of a plan, 0 for an accepted one: any plan may be handed in.

@@ -1,13 +1,12 @@
 -- The allowances before place i are in their range.
-use mathlib.Core.Path.{_≡_, refl, sym}
-use mathlib.Core.Bool.{Bool, true}
-use Prim.Native.Nat.{ℕ, _≤_, _-_}
+use mathlib.Core.Bool.{Bool, false}
+use Prim.Native.Nat.{ℕ, _-_}
 use borrow.Author.Needs.{needs}
 use Rattle.walk.specs.Units.{allowanceLimit}
-use Rattle.plan.specs.Places.{within, allTo}
+use Rattle.plan.specs.Places.{within}
 use Rattle.plan.specs.Plan.{allowanceAt, rule3}
 use Rattle.plan.specs.declared.Plan.{Plan}
-use Rattle.plan.proofs.PlaceLaws.{within-reads, within-low, within-high, all-next, all-done, all-fails}
+use Rattle.plan.proofs.PlaceLaws.{within-reads, within-low, within-high, Sought, sought-none, sought-next, sought-here, sought-nowhere}
 use Rattle.plan.proofs.rules.allowances_fit.Statement.{statement}
 use Rattle.plan.proofs.rules.allowances_fit.Tie as tie
 
@@ -15,7 +14,7 @@ abbrev fits : Plan → ℕ → Bool
 fits p i = within 1 allowanceLimit (allowanceAt p i)
 
 abbrev Inv-loop : tie.InvT-loop
-Inv-loop p k i₀ i = (i ≤ k) × (allTo i (fits p) ≡ true)
+Inv-loop p k i₀ i = Sought false (fits p) k i
 
 abbrev μ-loop : tie.MeasureT-loop
 μ-loop p k i₀ i = k - i
@@ -24,8 +23,7 @@ cast-k : tie.Need-cast-k Inv-loop μ-loop
 cast-k c = search needs
 
 loop-holds : tie.Need-loop-holds Inv-loop μ-loop
-unfolding allTo
-loop-holds c = (search needs, refl)
+loop-holds c = sought-none false _
 
 mul-x : tie.Need-mul-x Inv-loop μ-loop
 mul-x c = search needs
@@ -36,14 +34,13 @@ element-copy-out-x c = search needs
 returns : tie.Need-returns Inv-loop μ-loop
 unfolding rule3
 returns c =
-    let p = c .before .before .before .before .args .t1 in
-    sym (all-fails (fits p) _ _ (c .before .before .loop-test .taken) (within-low 1 allowanceLimit _ (c .if1 .taken)))
+    sought-here false _ (c .before .before .before .loop .inv) (c .before .before .loop-test .taken) (within-low 1 allowanceLimit _ (c .if1 .taken))
 
 returns-2 : tie.Need-returns-2 Inv-loop μ-loop
 unfolding rule3 allowanceLimit
 returns-2 c =
-    let p = c .before .before .before .before .before .args .t1 in
-    sym (all-fails (fits p) _ _ (c .before .before .before .loop-test .taken) (within-high 1 allowanceLimit _ (c .if2 .taken)))
+    sought-here false _ (c .before .before .before .before .loop .inv) (c .before .before .before .loop-test .taken)
+    (within-high 1 allowanceLimit _ (c .if2 .taken))
 
 add-i : tie.Need-add-i Inv-loop μ-loop
 add-i c = search needs
@@ -54,13 +51,12 @@ loop-less c = search needs
 loop-again : tie.Need-loop-again Inv-loop μ-loop
 unfolding allowanceLimit
 loop-again c =
-    let p = c .before .before .before .before .before .args .t1 in
-    let l = c .before .before .before .before .loop in
-    (search needs, all-next (fits p) (l .i) (l .inv .1) (within-reads 1 allowanceLimit _ .1 (c .before .if1 .left, c .if2 .left)))
+    sought-next false _ (c .before .before .before .before .loop .inv) (c .before .before .before .loop-test .taken)
+    (within-reads 1 allowanceLimit _ .1 (c .before .if1 .left, c .if2 .left))
 
 returns-3 : tie.Need-returns-3 Inv-loop μ-loop
 unfolding rule3
-returns-3 c = let l = c .before .loop in all-done (fits (c .before .before .args .t1)) _ _ (l .inv .0) (c .loop-test .left) (l .inv .1)
+returns-3 c = sought-nowhere false _ (c .before .loop .inv) (c .loop-test .left)
 
 pub allowances-fit-spec : {M : Type 1} → statement M
 allowances-fit-spec =

@@ -1,16 +1,15 @@
 -- The buckets before place j fit.
-use mathlib.Core.Path.{_≡_, refl, sym}
-use mathlib.Core.Bool.{true}
-use Prim.Native.Nat.{_≤_, _-_}
+use mathlib.Core.Path.{refl}
+use mathlib.Core.Bool.{false}
+use Prim.Native.Nat.{_-_}
 use borrow.Author.Needs.{needs}
-use Rattle.plan.specs.Places.{allTo}
 use Rattle.plan.specs.Plan.{bucketFits, rule5}
-use Rattle.plan.proofs.PlaceLaws.{passed, failed, all-next, all-done, all-fails}
+use Rattle.plan.proofs.PlaceLaws.{passed, failed, Sought, sought-none, sought-next, sought-here, sought-nowhere}
 use Rattle.plan.proofs.rules.buckets_fit.Statement.{statement}
 use Rattle.plan.proofs.rules.buckets_fit.Tie as tie
 
 abbrev Inv-loop : tie.InvT-loop
-Inv-loop p k b j₀ j = (j ≤ b) × (allTo j (bucketFits p) ≡ true)
+Inv-loop p k b j₀ j = Sought false (bucketFits p) b j
 
 abbrev μ-loop : tie.MeasureT-loop
 μ-loop p k b j₀ j = b - j
@@ -22,8 +21,7 @@ cast-b : tie.Need-cast-b Inv-loop μ-loop
 cast-b c = search needs
 
 loop-holds : tie.Need-loop-holds Inv-loop μ-loop
-unfolding allTo
-loop-holds c = (search needs, refl)
+loop-holds c = sought-none false _
 
 mul-left : tie.Need-mul-left Inv-loop μ-loop
 mul-left c = search needs
@@ -45,9 +43,8 @@ unfolding rule5
 returns c =
     let p = c .before .before .before .before .before .before .before .before .args .t1 in
     let l = c .before .before .before .before .before .before .before .loop in
-    sym
-    (all-fails (bucketFits p) _ _ (c .before .before .before .before .before .before .loop-test .taken)
-    (failed (c .before .bucket-fits .ensures p (l .j) refl refl refl refl) (c .if1 .taken)))
+    sought-here false _ (l .inv) (c .before .before .before .before .before .before .loop-test .taken)
+    (failed (c .before .bucket-fits .ensures p (l .j) refl refl refl refl) (c .if1 .taken))
 
 add-j : tie.Need-add-j Inv-loop μ-loop
 add-j c = search needs
@@ -58,16 +55,13 @@ loop-less c = search needs
 loop-again : tie.Need-loop-again Inv-loop μ-loop
 loop-again c =
     let p = c .before .before .before .before .before .before .before .before .args .t1 in
-    let l = c .before .before .before .before .before .before .before .loop in (
-      search needs,
-      all-next (bucketFits p) (l .j) (l .inv .1) (passed (c .before .bucket-fits .ensures p (l .j) refl refl refl refl) (c .if1 .left)),
-    )
+    let l = c .before .before .before .before .before .before .before .loop in
+    sought-next false _ (l .inv) (c .before .before .before .before .before .before .loop-test .taken)
+    (passed (c .before .bucket-fits .ensures p (l .j) refl refl refl refl) (c .if1 .left))
 
 returns-2 : tie.Need-returns-2 Inv-loop μ-loop
 unfolding rule5
-returns-2 c =
-    let l = c .before .loop in
-    all-done (bucketFits (c .before .before .args .t1)) _ _ (l .inv .0) (c .loop-test .left) (l .inv .1)
+returns-2 c = sought-nowhere false _ (c .before .loop .inv) (c .loop-test .left)
 
 pub buckets-fit-spec : {M : Type 1} → statement M
 buckets-fit-spec =

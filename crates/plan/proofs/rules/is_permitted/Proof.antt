@@ -14,13 +14,13 @@ returns-2 : tie.Need-returns-2
 unfolding permitted million
 returns-2 c p k ts = rw (eq?-fails _ 0 (c .before .if1 .left), eq?-complete _ 1000000 (c .if2 .taken))
 
-is-threshold-requires : tie.Need-is-threshold-requires
-is-threshold-requires c κs = search needs
+is-among-requires : tie.Need-is-among-requires
+is-among-requires c κs = search needs
 
 returns-3 : tie.Need-returns-3
 unfolding permitted million
 returns-3 c p k ts =
-    rw (eq?-fails _ 0 (c .before .before .if1 .left), eq?-fails _ 1000000 (c .before .if2 .left), k, ts) (c .is-threshold .ensures)
+    rw (eq?-fails _ 0 (c .before .before .before .if1 .left), eq?-fails _ 1000000 (c .before .before .if2 .left), k, ts) (c .is-among .ensures)
 
 pub is-permitted-spec : {M : Type 1} → statement M
-is-permitted-spec = tie.close (tie.spec returns returns-2 is-threshold-requires returns-3)
+is-permitted-spec = tie.close (tie.spec returns returns-2 is-among-requires returns-3)

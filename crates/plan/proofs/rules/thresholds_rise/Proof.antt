@@ -1,20 +1,20 @@
 -- The thresholds before place i are in their range and rise, and `before` is the last of them.
-use mathlib.Core.Path.{_≡_, refl, sym}
+use mathlib.Core.Path.{_≡_, refl}
 use mathlib.Core.Bool.{Bool, true, false, _&&_}
 use Prim.Native.Nat.{ℕ, zero, suc, _≤_, _<_, _-_}
 use native.Mathlib.Numerals.{add-one}
 use native.Mathlib.Omega.{arith}
 use borrow.Author.Needs.{needs}
 use Rattle.walk.proofs.Tests.{le?-complete, le?-fails}
-use Rattle.plan.specs.Places.{within, allTo}
-use Rattle.plan.specs.Plan.{thresholdAt, aboveBefore, rule2}
+use Rattle.plan.specs.Places.{within}
+use Rattle.plan.specs.Plan.{thresholdLimit, thresholdAt, aboveBefore, rule2}
 use Rattle.plan.specs.declared.Plan.{Plan}
-use Rattle.plan.proofs.PlaceLaws.{and-fails, within-reads, within-low, within-high, all-next, all-done, all-fails}
+use Rattle.plan.proofs.PlaceLaws.{and-fails, within-reads, within-low, within-high, Sought, sought-none, sought-next, sought-here, sought-nowhere}
 use Rattle.plan.proofs.rules.thresholds_rise.Statement.{statement}
 use Rattle.plan.proofs.rules.thresholds_rise.Tie as tie
 
 abbrev fits : Plan → ℕ → Bool
-fits p i = within 1 999999 (thresholdAt p i) && aboveBefore p i
+fits p i = within 1 thresholdLimit (thresholdAt p i) && aboveBefore p i
 
 -- the threshold before place i, 0 before the first
 abbrev beforeAt : Plan → ℕ → ℕ
@@ -23,20 +23,20 @@ beforeAt p (suc i) = thresholdAt p i
 
 low : (p : Plan) (i : ℕ) → thresholdAt p i ≤ beforeAt p i → fits p i ≡ false
 unfolding aboveBefore
-low p zero h = rw (within-low 1 999999 (thresholdAt p 0) (omega arith))
+low p zero h = rw (within-low 1 thresholdLimit (thresholdAt p 0) (omega arith))
 low p (suc i) h =
-    and-fails (within 1 999999 (thresholdAt p (suc i))) _ (le?-fails (suc (thresholdAt p i)) (thresholdAt p (suc i)) (omega arith))
+    and-fails (within 1 thresholdLimit (thresholdAt p (suc i))) _ (le?-fails (suc (thresholdAt p i)) (thresholdAt p (suc i)) (omega arith))
 
-high : (p : Plan) (i : ℕ) → 999999 < thresholdAt p i → fits p i ≡ false
-high p i h = rw (within-high 1 999999 (thresholdAt p i) h)
+high : (p : Plan) (i : ℕ) → thresholdLimit < thresholdAt p i → fits p i ≡ false
+high p i h = rw (within-high 1 thresholdLimit (thresholdAt p i) h)
 
-fit : (p : Plan) (i : ℕ) → beforeAt p i < thresholdAt p i → thresholdAt p i ≤ 999999 → fits p i ≡ true
+fit : (p : Plan) (i : ℕ) → beforeAt p i < thresholdAt p i → thresholdAt p i ≤ thresholdLimit → fits p i ≡ true
 unfolding aboveBefore
-fit p zero h k = rw (within-reads 1 999999 (thresholdAt p 0) .1 (h, k))
-fit p (suc i) h k = rw (within-reads 1 999999 (thresholdAt p (suc i)) .1 (omega arith, k)) (le?-complete (suc (thresholdAt p i)) (thresholdAt p (suc i)) h)
+fit p zero h k = rw (within-reads 1 thresholdLimit (thresholdAt p 0) .1 (h, k))
+fit p (suc i) h k = rw (within-reads 1 thresholdLimit (thresholdAt p (suc i)) .1 (omega arith, k)) (le?-complete (suc (thresholdAt p i)) (thresholdAt p (suc i)) h)
 
 abbrev Inv-loop : tie.InvT-loop
-Inv-loop p k before₀ i₀ before i = (i ≤ k) × (before ≡ beforeAt p i) × (allTo i (fits p) ≡ true)
+Inv-loop p k before₀ i₀ before i = (before ≡ beforeAt p i) × Sought false (fits p) k i
 
 abbrev μ-loop : tie.MeasureT-loop
 μ-loop p k before₀ i₀ before i = k - i
@@ -45,8 +45,7 @@ cast-k : tie.Need-cast-k Inv-loop μ-loop
 cast-k c = search needs
 
 loop-holds : tie.Need-loop-holds Inv-loop μ-loop
-unfolding allTo
-loop-holds c = (search needs, refl, refl)
+loop-holds c = (refl, sought-none false _)
 
 mul-t : tie.Need-mul-t Inv-loop μ-loop
 mul-t c = search needs
@@ -59,13 +58,13 @@ unfolding rule2
 returns c =
     let p = c .before .before .before .before .args .t1 in
     let l = c .before .before .before .loop in
-    sym (all-fails (fits p) _ _ (c .before .before .loop-test .taken) (low p (l .i) (rw (l .inv .1) at (c .if1 .taken))))
+    sought-here false _ (l .inv .1) (c .before .before .loop-test .taken) (low p (l .i) (rw (l .inv .0) at (c .if1 .taken)))
 
 returns-2 : tie.Need-returns-2 Inv-loop μ-loop
 unfolding rule2
 returns-2 c =
     let p = c .before .before .before .before .before .args .t1 in
-    sym (all-fails (fits p) _ _ (c .before .before .before .loop-test .taken) (high p _ (c .if2 .taken)))
+    sought-here false _ (c .before .before .before .before .loop .inv .1) (c .before .before .before .loop-test .taken) (high p _ (c .if2 .taken))
 
 add-i : tie.Need-add-i Inv-loop μ-loop
 add-i c = search needs
@@ -77,14 +76,14 @@ loop-again : tie.Need-loop-again Inv-loop μ-loop
 loop-again c =
     let p = c .before .before .before .before .before .args .t1 in
     let l = c .before .before .before .before .loop in (
-      search needs,
       rw (add-one (l .i)),
-      all-next (fits p) (l .i) (l .inv .2) (fit p (l .i) (rw (l .inv .1) at (c .before .if1 .left)) (c .if2 .left)),
+      sought-next false _ (l .inv .1) (c .before .before .before .loop-test .taken)
+          (fit p (l .i) (rw (l .inv .0) at (c .before .if1 .left)) (c .if2 .left)),
     )
 
 returns-3 : tie.Need-returns-3 Inv-loop μ-loop
 unfolding rule2
-returns-3 c = let l = c .before .loop in all-done (fits (c .before .before .args .t1)) _ _ (l .inv .0) (c .loop-test .left) (l .inv .2)
+returns-3 c = sought-nowhere false _ (c .before .loop .inv .1) (c .loop-test .left)
 
 pub thresholds-rise-spec : {M : Type 1} → statement M
 thresholds-rise-spec =
