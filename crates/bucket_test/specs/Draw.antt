@@ -6,7 +6,7 @@ use lib.ListN.{replicate}
 use Rattle.walk.specs.Numbers.{le?}
 use Rattle.walk.specs.Record.{startPart}
 use Rattle.plan.specs.Places.{allTo, unless, firstRefusal, overTo, joinTo}
-use Rattle.plan.specs.Plan.{planRefusal}
+use Rattle.plan.specs.Plan.{countLimit, planRefusal}
 use Rattle.bucket_test.specs.Words.{wordsFit}
 use Rattle.bucket_test.specs.Turn.{startRecord, noRecord, recordAt, recordTurn, partTurn, soundAt}
 use Rattle.bucket_test.specs.Answers.{lowOf, highOf, answerOf, isEnding, goesOn}
@@ -34,7 +34,7 @@ outcomeOf d words = record { answer = d .answer; state = d .state; words = words
 
 -- before any draw, ten of one record
 abbrev pub tenOf : Threshold → State
-tenOf t = record { n = 0; ones = 0; records = replicate 10 t }
+tenOf t = record { n = 0; ones = 0; records = replicate countLimit t }
 
 -- ten open records with step 0's boundaries, and each part the words of step 0
 unfoldable pub startState : State

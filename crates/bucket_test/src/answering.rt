@@ -1,9 +1,10 @@
-// Interval and answer of a state (01, "Taking a draw").
+// Interval and answer of a state (rules 7).
 
 use crate::Answer;
-use plan::Plan;
 use crate::State;
 use crate::Threshold;
+use plan::Plan;
+use walk::MILLION;
 use walk::Mark;
 use walk::soundness::is_wide;
 ghost use mathlib.Core.Path.{_≡_};
@@ -12,6 +13,7 @@ ghost use Prim.Native.Nat.{_≤_, max, min};
 ghost use Rattle.walk.specs.Numbers.{le?, only, choose};
 ghost use Rattle.walk.specs.Units.{million};
 ghost use Rattle.walk.specs.Strings.{Upper, Lower, isOn};
+ghost use Rattle.plan.specs.Plan.{countLimit, bucketLimit};
 ghost use Rattle.bucket_test.specs.Turn.{wideOpen};
 ghost use Rattle.bucket_test.specs.Answers.{lowOf, highOf, anyWide, firstBucket, answerOf};
 
@@ -53,7 +55,7 @@ fn narrowed(v: Interval, m: Mark, t: u32) -> Interval
 
 // The interval of a state. An accepted plan has at most ten thresholds.
 pub(crate) fn interval_of(p: Plan, s: State) -> Interval
-    requires { ⌜ p .count ≤ 10 ⌝ }
+    requires { ⌜ p .count ≤ countLimit ⌝ }
     ensures { λ r. ⌜ (r .low ≡ lowOf p s) × (r .high ≡ highOf p s) ⌝ }
 {
     let count = p.count as usize;
@@ -61,7 +63,7 @@ pub(crate) fn interval_of(p: Plan, s: State) -> Interval
     let records = s.records;
     let mut v = Interval {
         low: 0,
-        high: 1000000,
+        high: MILLION,
     };
     let mut i = 0;
     while i < count {
@@ -86,7 +88,7 @@ fn open_and_wide(t: Threshold) -> bool
 }
 
 fn any_wide(p: Plan, s: State) -> bool
-    requires { ⌜ p .count ≤ 10 ⌝ }
+    requires { ⌜ p .count ≤ countLimit ⌝ }
     ensures { λ r. ⌜ r ≡ anyWide p s ⌝ }
 {
     let count = p.count as usize;
@@ -103,7 +105,7 @@ fn any_wide(p: Plan, s: State) -> bool
 }
 
 // A bucket from left to right contains the interval from low to high.
-fn holds_interval(left: u32, right: u32, low: u32, high: u32) -> bool
+fn contains(left: u32, right: u32, low: u32, high: u32) -> bool
     ensures { λ r. ⌜ r ≡ (le? left low && le? high right) ⌝ }
 {
     if left <= low {
@@ -114,7 +116,7 @@ fn holds_interval(left: u32, right: u32, low: u32, high: u32) -> bool
 
 // The place of the first bucket that contains the interval, or the number of buckets.
 fn first_bucket(p: Plan, low: u32, high: u32) -> u32
-    requires { ⌜ p .buckets ≤ 16 ⌝ }
+    requires { ⌜ p .buckets ≤ bucketLimit ⌝ }
     ensures { λ r. ⌜ r ≡ firstBucket p low high ⌝ }
 {
     let buckets = p.buckets;
@@ -123,7 +125,7 @@ fn first_bucket(p: Plan, low: u32, high: u32) -> u32
     let mut j: u32 = 0;
     while j < buckets {
         let at = j as usize;
-        if holds_interval(left[at], right[at], low, high) {
+        if contains(left[at], right[at], low, high) {
             return j;
         }
         j += 1;
@@ -133,7 +135,7 @@ fn first_bucket(p: Plan, low: u32, high: u32) -> u32
 
 // The first answer that fits, where the plan is accepted.
 pub(crate) fn answer_of(p: Plan, s: State) -> Answer
-    requires { ⌜ (p .count ≤ 10) × (p .buckets ≤ 16) ⌝ }
+    requires { ⌜ (p .count ≤ countLimit) × (p .buckets ≤ bucketLimit) ⌝ }
     ensures { λ r. ⌜ r ≡ answerOf p s ⌝ }
 {
     let v = interval_of(p, s);

@@ -2,17 +2,18 @@
 
 use crate::Answer;
 use crate::Drawn;
-use plan::Plan;
 use crate::Report;
 use crate::State;
 use crate::answering::answer_of;
 use crate::answering::interval_of;
 use crate::judging::state_sound;
-use plan::rules::plan_refusal;
 use crate::starting::no_state;
 use crate::starting::start_parts;
 use crate::starting::start_state;
 use crate::turning::turn_all;
+use plan::Plan;
+use plan::rules::plan_refusal;
+use walk::WIDE;
 ghost use mathlib.Core.Path.{_≡_};
 ghost use mathlib.Core.Bool.{true, false};
 ghost use Prim.Native.Nat.{_*_, _≤_};
@@ -43,7 +44,7 @@ pub fn begin(p: Plan, words: &mut [u64]) -> Drawn
         return refused(bad, no_state());
     }
     let parts = p.count as usize;
-    if words.len() != 769 * parts {
+    if words.len() != WIDE * parts {
         return refused(8, no_state());
     }
     start_parts(words, parts);
@@ -100,7 +101,7 @@ pub fn draw(p: Plan, s: State, words: &mut [u64], d: u8) -> Drawn
         return refused(bad, s);
     }
     let count = p.count as usize;
-    if words.len() != 769 * count {
+    if words.len() != WIDE * count {
         return refused(8, s);
     }
     if d > 1 {

@@ -1,10 +1,11 @@
-// Whether a state that was handed in may take a draw (01, refusal 11).
+// Whether a state that was handed in may take a draw (rules 8.4).
 
-use plan::Plan;
 use crate::State;
 use crate::Threshold;
+use plan::Plan;
 use plan::rules::in_range;
 use walk::Mark;
+use walk::WIDE;
 use walk::soundness::is_sound;
 use walk::spending::spending_at;
 ghost use mathlib.Core.Path.{_≡_};
@@ -40,8 +41,8 @@ fn records_sound(p: Plan, s: State, words: &[u64]) -> bool
     for i in 0..count {
         let t = s.records[i];
         let e = spending_at(p.allowances[i], p.delay, s.n);
-        let at = 769 * i;
-        if !record_sound(t, &words[at..at + 769], e, s.n, s.ones) {
+        let at = WIDE * i;
+        if !record_sound(t, &words[at..at + WIDE], e, s.n, s.ones) {
             return false;
         }
     }

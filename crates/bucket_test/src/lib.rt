@@ -5,6 +5,7 @@ mod judging;
 mod starting;
 mod turning;
 
+use plan::COUNT_LIMIT;
 use walk::Mark;
 use walk::Walked;
 
@@ -18,7 +19,7 @@ pub struct Threshold {
 pub struct State {
     pub n: u32,
     pub ones: u32,
-    pub records: [Threshold; 10],
+    pub records: [Threshold; COUNT_LIMIT],
 }
 
 // What a beginning or a draw answers: a bucket by its number from 1, a refusal by its number.

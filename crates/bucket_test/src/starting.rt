@@ -2,6 +2,7 @@
 
 use crate::State;
 use crate::Threshold;
+use plan::COUNT_LIMIT;
 use walk::Mark;
 use walk::WIDE;
 use walk::Walked;
@@ -26,7 +27,7 @@ fn ten_of(walked: Walked) -> State
         mark: mark,
         walked: walked,
     };
-    let records = [t; 10];
+    let records = [t; COUNT_LIMIT];
     State {
         n: 0,
         ones: 0,

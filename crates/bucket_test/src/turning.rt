@@ -1,8 +1,10 @@
-// The turns of the thresholds in a draw (01, "Taking a draw").
+// The turns of the thresholds in a draw (rules 6.2).
 
-use plan::Plan;
 use crate::Threshold;
+use plan::COUNT_LIMIT;
+use plan::Plan;
 use walk::Mark;
+use walk::WIDE;
 use walk::Walked;
 use walk::spending::spending_at;
 use walk::step::step;
@@ -56,11 +58,11 @@ fn turn(t: Threshold, part: &mut [u64], a: u32, e: u64, n: u32, ones: u32) -> Th
 // judged the plan, the words and the state.
 pub(crate) fn turn_all(
     p: Plan,
-    records: [Threshold; 10],
+    records: [Threshold; COUNT_LIMIT],
     words: &mut [u64],
     n: u32,
     ones: u32,
-) -> [Threshold; 10]
+) -> [Threshold; COUNT_LIMIT]
     requires { ⌜
         (planRefusal p ≡ 0)
         × (length (now words) ≡ wide * p .count)
@@ -78,8 +80,8 @@ pub(crate) fn turn_all(
         let t = next[i];
         let a = p.thresholds[i];
         let e = spending_at(p.allowances[i], p.delay, n);
-        let at = 769 * i;
-        next[i] = turn(t, &mut words[at..at + 769], a, e, n, ones);
+        let at = WIDE * i;
+        next[i] = turn(t, &mut words[at..at + WIDE], a, e, n, ones);
     }
     next
 }

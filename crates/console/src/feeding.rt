@@ -2,8 +2,8 @@
 
 use crate::input::to_draws;
 use bucket_test::Drawn;
-use plan::Plan;
 use bucket_test::drawing::draw_all;
+use plan::Plan;
 ghost use mathlib.Core.Path.{_≡_};
 ghost use mathlib.Core.List.{_++_};
 ghost use lib.ListN.{length, drop};

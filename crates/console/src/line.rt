@@ -2,10 +2,10 @@
 
 use bucket_test::Answer;
 use bucket_test::Drawn;
-use plan::Plan;
 use bucket_test::Report;
 use bucket_test::State;
 use bucket_test::drawing::report_on;
+use plan::Plan;
 ghost use mathlib.Core.Path.{_≡_};
 ghost use mathlib.Core.List.{_∷_};
 ghost use Prim.Native.Nat.{_+_, _≤_};

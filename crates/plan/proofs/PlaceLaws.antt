@@ -98,15 +98,6 @@ within-high lo hi x h = and-fails (le? lo x) (le? x hi) (le?-fails x hi h)
 -- ---- every place below n, some place below n
 
 module _ (pass : ℕ → Bool) where
-  -- one place more
-  pub all-suc : (n : ℕ) → allTo (suc n) pass ≡ (allTo n pass && pass n)
-  unfolding allTo
-  all-suc n = refl
-
-  pub any-suc : (n : ℕ) → anyTo (suc n) pass ≡ (anyTo n pass || pass n)
-  unfolding anyTo
-  any-suc n = refl
-
   -- what the places say
   module _ {P : ℕ → Type 0} (reads : (i : ℕ) → (pass i ≡ true) ↔ P i) where
     pub all-say : (n : ℕ) → (allTo n pass ≡ true) ↔ ((i : ℕ) → i < n → P i)

@@ -3,8 +3,11 @@ pub mod rules;
 
 // The limits of a plan, as specs/Plan has them: the most thresholds and buckets, the largest threshold and delay.
 pub const COUNT_LIMIT: usize = 10;
+
 pub const BUCKET_LIMIT: usize = 16;
+
 pub const THRESHOLD_LIMIT: u32 = 999999;
+
 pub const DELAY_LIMIT: u32 = 65535;
 
 // A plan (rules 1.2): so many thresholds, in millionths, with an allowance each, in units, so many buckets, each from a left to a right

@@ -14,6 +14,7 @@ use walk::HORIZON_LIMIT;
 use walk::MILLION;
 
 const MOST_THRESHOLDS: u32 = COUNT_LIMIT as u32;
+
 const MOST_BUCKETS: u32 = BUCKET_LIMIT as u32;
 
 // From lo to hi, both included.
@@ -136,7 +137,12 @@ fn buckets_fit(p: Plan) -> bool
 
 // Whether what lies just above e is covered by the first b of these buckets, of at most sixteen: e is at the top, or a bucket begins at or
 // below it and ends above it.
-fn covered_above<'a>(ls: &'a [u32; BUCKET_LIMIT], rs: &'a [u32; BUCKET_LIMIT], b: usize, e: u32) -> bool
+fn covered_above<'a>(
+    ls: &'a [u32; BUCKET_LIMIT],
+    rs: &'a [u32; BUCKET_LIMIT],
+    b: usize,
+    e: u32,
+) -> bool
     requires { ⌜ b ≤ bucketLimit ⌝ }
     ensures { λ r. ⌜ ((p : Plan) → p .buckets ≡ b → p .left ≡ now (ls .entry) → p .right ≡ now (rs .entry) → r ≡ coveredAbove p e) ⌝ }
 {

@@ -10,10 +10,15 @@ pub mod step;
 // The fixed numbers of the rules, as specs/Units has them: the whole, thresholds' millionths, the live counts of a wide walk, and the largest
 // live word, horizon and allowance.
 pub const M: u64 = 4398046511104;
+
 pub const MILLION: u32 = 1000000;
+
 pub const WIDE: usize = 769;
+
 pub const MASS_LIMIT: u64 = 8796093022208;
+
 pub const HORIZON_LIMIT: u32 = 50000;
+
 pub const ALLOWANCE_LIMIT: u64 = 2199023255551;
 
 // How the draws stand to a threshold: open, or settled at a step (01: mark).

@@ -8,6 +8,7 @@ ghost use Rattle.walk.specs.Mass.{massUp};
 
 // A unit in millionths, and the most that is less.
 const UNIT: u64 = MILLION as u64;
+
 const LESS: u64 = UNIT - 1;
 
 // The mass that stays at a count with each draw 0 and the mass that comes from the count before with each draw 1: their sum is rounded

@@ -17,7 +17,9 @@ ghost use Rattle.walk.specs.Soundness.{boundariesSound, isSound};
 
 // How far apart the boundaries of a wide walk are; what `all_fit` adds to a word, and what tells then.
 const WIDE_APART: i64 = WIDE as i64 + 1;
+
 const BELOW_LIMIT: u64 = MASS_LIMIT - 1;
+
 const TWICE_LIMIT: u64 = 2 * MASS_LIMIT;
 
 // What refusal 11 asks of the boundaries and the spent masses, in its order. Differences are taken in 64 bits, where none overflows.

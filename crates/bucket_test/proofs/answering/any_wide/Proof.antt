@@ -1,16 +1,15 @@
 -- Of the first i open thresholds none is wide.
-use mathlib.Core.Path.{_≡_, refl, sym, _∙_}
-use mathlib.Core.Bool.{Bool, false}
+use mathlib.Core.Path.{sym, _∙_}
+use mathlib.Core.Bool.{Bool, true}
 use mathlib.Core.List.{List}
-use Prim.Native.Nat.{ℕ, _-_, _≤_}
+use Prim.Native.Nat.{ℕ, _-_}
 use native.Mathlib.Omega.{arith}
 use borrow.Author.Needs.{needs}
 use lib.ListN.{getD}
-use Rattle.plan.specs.Places.{anyTo}
 use Rattle.bucket_test.specs.Turn.{noRecord, wideOpen}
 use Rattle.bucket_test.specs.Answers.{anyWide}
 use Rattle.bucket_test.specs.declared.Threshold.{Threshold}
-use Rattle.plan.proofs.PlaceLaws.{any-holds, any-next, any-done}
+use Rattle.plan.proofs.PlaceLaws.{Sought, sought-none, sought-next, sought-here, sought-nowhere}
 use Rattle.bucket_test.proofs.answering.any_wide.Statement.{statement}
 use Rattle.bucket_test.proofs.answering.any_wide.Tie as tie
 
@@ -18,7 +17,7 @@ abbrev wideAt : List Threshold → ℕ → Bool
 wideAt records k = wideOpen (getD records k noRecord)
 
 abbrev Inv-loop : tie.InvT-loop
-Inv-loop count records i₀ i = (i ≤ count) × (anyTo i (wideAt records) ≡ false)
+Inv-loop count records i₀ i = Sought true (wideAt records) count i
 
 abbrev μ-loop : tie.MeasureT-loop
 μ-loop count records i₀ i = count - i
@@ -27,8 +26,7 @@ cast-count : tie.Need-cast-count Inv-loop μ-loop
 cast-count c = search needs
 
 loop-holds : tie.Need-loop-holds Inv-loop μ-loop
-unfolding anyTo
-loop-holds c = (omega arith, refl)
+loop-holds c = sought-none true _
 
 mul-r : tie.Need-mul-r Inv-loop μ-loop
 mul-r c = omega (arith, c .before .before .before .before .pre)
@@ -42,9 +40,8 @@ open-and-wide-requires c κs = search needs
 returns : tie.Need-returns Inv-loop μ-loop
 unfolding anyWide
 returns c =
-    let k = c .before .before .before .before .before .before .before .args in
-    let l = c .before .before .before .before .loop in
-    sym (any-holds (wideAt (k .s .records)) (k .p .count) (l .i) (omega arith) (sym (c .before .open-and-wide .ensures) ∙ c .if1 .taken))
+    sought-here true _ (c .before .before .before .before .loop .inv) (c .before .before .before .loop-test .taken)
+    (sym (c .before .open-and-wide .ensures) ∙ c .if1 .taken)
 
 add-i : tie.Need-add-i Inv-loop μ-loop
 add-i c = omega (arith, c .before .before .before .before .before .before .before .pre)
@@ -54,16 +51,12 @@ loop-less c = omega arith
 
 loop-again : tie.Need-loop-again Inv-loop μ-loop
 loop-again c =
-    let k = c .before .before .before .before .before .before .before .args in
-    let l = c .before .before .before .before .loop in
-    (omega arith, any-next (wideAt (k .s .records)) (l .i) (l .inv .1) (sym (c .before .open-and-wide .ensures) ∙ c .if1 .left))
+    sought-next true _ (c .before .before .before .before .loop .inv) (c .before .before .before .loop-test .taken)
+    (sym (c .before .open-and-wide .ensures) ∙ c .if1 .left)
 
 returns-2 : tie.Need-returns-2 Inv-loop μ-loop
 unfolding anyWide
-returns-2 c =
-    let k = c .before .before .before .before .args in
-    let l = c .before .loop in
-    any-done (wideAt (k .s .records)) (k .p .count) (l .i) (omega arith) (omega arith) (l .inv .1)
+returns-2 c = sought-nowhere true _ (c .before .loop .inv) (c .loop-test .left)
 
 pub any-wide-spec : {M : Type 1} → statement M
 any-wide-spec =

@@ -29,27 +29,27 @@ loop-holds c = (omega arith, rw sub-zero)
 cast-at : tie.Need-cast-at Inv-loop μ-loop
 cast-at c = omega (arith, c .before .before .before .before .pre)
 
-mul-holds-interval : tie.Need-mul-holds-interval Inv-loop μ-loop
-mul-holds-interval c = omega (arith, c .before .before .before .before .pre)
+mul-contains : tie.Need-mul-contains Inv-loop μ-loop
+mul-contains c = omega (arith, c .before .before .before .before .pre)
 
-array-read-holds-interval : tie.Need-array-read-holds-interval Inv-loop μ-loop
-array-read-holds-interval c = omega (arith, c .before .before .before .before .pre)
+array-read-contains : tie.Need-array-read-contains Inv-loop μ-loop
+array-read-contains c = omega (arith, c .before .before .before .before .pre)
 
-mul-holds-interval-2 : tie.Need-mul-holds-interval-2 Inv-loop μ-loop
-mul-holds-interval-2 c = omega (arith, c .before .before .before .before .pre)
+mul-contains-2 : tie.Need-mul-contains-2 Inv-loop μ-loop
+mul-contains-2 c = omega (arith, c .before .before .before .before .pre)
 
-array-read-holds-interval-2 : tie.Need-array-read-holds-interval-2 Inv-loop μ-loop
-array-read-holds-interval-2 c = omega (arith, c .before .before .before .before .pre)
+array-read-contains-2 : tie.Need-array-read-contains-2 Inv-loop μ-loop
+array-read-contains-2 c = omega (arith, c .before .before .before .before .pre)
 
-holds-interval-requires : tie.Need-holds-interval-requires Inv-loop μ-loop
-holds-interval-requires c κs = search needs
+contains-requires : tie.Need-contains-requires Inv-loop μ-loop
+contains-requires c κs = search needs
 
 returns : tie.Need-returns Inv-loop μ-loop
 unfolding firstBucket contains
 returns c =
     let k = c .before .before .before .before .before .before .args in
     let l = c .before .before .before .loop in
-    sym (search-stops _ (l .j) (holding (k .p .left) (k .p .right) (k .low) (k .high)) (λ h. sym (c .before .holds-interval .ensures) ∙ c .if1 .taken))
+    sym (search-stops _ (l .j) (holding (k .p .left) (k .p .right) (k .low) (k .high)) (λ h. sym (c .before .contains .ensures) ∙ c .if1 .taken))
     ∙ l .inv .1
 
 add-j : tie.Need-add-j Inv-loop μ-loop
@@ -65,7 +65,7 @@ loop-again c =
       omega arith,
       sym
           (search-more _ (l .j) (holding (k .p .left) (k .p .right) (k .low) (k .high)) (c .before .before .loop-test .taken)
-          (sym (c .before .holds-interval .ensures) ∙ c .if1 .left))
+          (sym (c .before .contains .ensures) ∙ c .if1 .left))
           ∙ l .inv .1,
     )
 
@@ -84,11 +84,11 @@ first-bucket-spec =
     μ-loop
     loop-holds
     cast-at
-    mul-holds-interval
-    array-read-holds-interval
-    mul-holds-interval-2
-    array-read-holds-interval-2
-    holds-interval-requires
+    mul-contains
+    array-read-contains
+    mul-contains-2
+    array-read-contains-2
+    contains-requires
     returns
     add-j
     loop-less

@@ -1,17 +1,16 @@
 -- The records before place i pass.
-use mathlib.Core.Path.{_≡_, refl, sym, _∙_}
-use mathlib.Core.Bool.{Bool, true}
+use mathlib.Core.Path.{_≡_, _∙_}
+use mathlib.Core.Bool.{Bool, false}
 use mathlib.Core.List.{List}
 use Prim.Native.Nat.{ℕ, _*_, _-_, _≤_}
 use native.Mathlib.Omega.{arith}
 use lib.ListN.{length}
 use Rattle.walk.specs.Units.{wide}
-use Rattle.plan.specs.Places.{allTo}
 use Rattle.plan.specs.Plan.{spendingOf}
 use Rattle.bucket_test.specs.Turn.{recordAt, soundAt}
 use Rattle.plan.specs.declared.Plan.{Plan}
 use Rattle.bucket_test.specs.declared.State.{State}
-use Rattle.plan.proofs.PlaceLaws.{passed, failed, all-next, all-done, all-fails}
+use Rattle.plan.proofs.PlaceLaws.{passed, failed, Sought, sought-none, sought-next, sought-here, sought-nowhere}
 use Rattle.plan.proofs.AcceptedLaws.{accepted}
 use Rattle.bucket_test.proofs.TurningLaws.{part-lent}
 use borrow.Author.Needs.{needs}
@@ -22,7 +21,7 @@ abbrev passes : Plan → State → List ℕ → ℕ → Bool
 passes p s ws i = soundAt p ws (s .n) (s .ones) i (recordAt s i)
 
 abbrev Inv-loop : tie.InvT-loop
-Inv-loop words p s count i₀ i = (i ≤ count) × (count ≤ 10) × (length words ≡ 769 * count) × (allTo i (passes p s words) ≡ true)
+Inv-loop words p s count i₀ i = (count ≤ 10) × (length words ≡ 769 * count) × Sought false (passes p s words) count i
 
 abbrev μ-loop : tie.MeasureT-loop
 μ-loop words p s count i₀ i = count - i
@@ -31,8 +30,8 @@ cast-count : tie.Need-cast-count Inv-loop μ-loop
 cast-count c = search needs
 
 loop-holds : tie.Need-loop-holds Inv-loop μ-loop
-unfolding allTo wide
-loop-holds c = (omega arith, accepted (c .before .args .t1) .0 (c .before .pre .0) .count-range .1, c .before .pre .1, refl)
+unfolding wide
+loop-holds c = (accepted (c .before .args .t1) .0 (c .before .pre .0) .count-range .1, c .before .pre .1, sought-none false _)
 
 mul-t : tie.Need-mul-t Inv-loop μ-loop
 mul-t c = search needs
@@ -86,10 +85,7 @@ judged c =
 returns : tie.Need-returns Inv-loop μ-loop
 returns c =
     let b = c .before .before .before .before .before .before in
-    let a = b .before .before .before .args in
-    sym
-    (all-fails (passes (a .t1) (a .t2) (a .words .now)) (a .t1 .count) (b .before .loop .i) (b .loop-test .taken)
-    (failed (judged (c .before)) (c .if1 .taken)))
+    sought-here false _ (b .before .loop .inv .2) (b .loop-test .taken) (failed (judged (c .before)) (c .if1 .taken))
 
 add-i : tie.Need-add-i Inv-loop μ-loop
 add-i c = search needs
@@ -99,19 +95,12 @@ loop-less c = search needs
 
 loop-again : tie.Need-loop-again Inv-loop μ-loop
 loop-again c =
-    let a = c .before .before .before .before .before .before .before .before .before .args in
-    let l = c .before .before .before .before .before .before .before .loop in (
-      omega arith,
-      l .inv .1,
-      l .inv .2,
-      all-next (passes (a .t1) (a .t2) (a .words .now)) (l .i) (l .inv .3) (passed (judged (c .before)) (c .if1 .left)),
-    )
+    let b = c .before .before .before .before .before .before in
+    let l = b .before .loop in
+    (l .inv .0, l .inv .1, sought-next false _ (l .inv .2) (b .loop-test .taken) (passed (judged (c .before)) (c .if1 .left)))
 
 returns-2 : tie.Need-returns-2 Inv-loop μ-loop
-returns-2 c =
-    let a = c .before .before .before .args in
-    let l = c .before .loop in
-    all-done (passes (a .t1) (a .t2) (a .words .now)) (a .t1 .count) (l .i) (l .inv .0) (c .loop-test .left) (l .inv .3)
+returns-2 c = sought-nowhere false _ (c .before .loop .inv .2) (c .loop-test .left)
 
 pub records-sound-spec : {M : Type 1} → statement M
 records-sound-spec =
