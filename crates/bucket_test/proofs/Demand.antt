@@ -30,12 +30,7 @@ use Rattle.bucket_test.proofs.Invariant.{markAt, recordAfter, partAfter
 use Rattle.bucket_test.specs.declared.State.{State}
 use Rattle.plan.specs.declared.Plan.{Plan}
 use Rattle.bucket_test.proofs.PartLaws.{words-say}
-
--- a refused draw leaves state and words as they are
-stays-by : (r : ℕ) (p : Plan) (s : State) (ws : List ℕ) (d : ℕ) → ¬ (refusalOf (drawnBy r p s ws d .answer) ≡ 0)
-    → (drawnBy r p s ws d .state ≡ s) × (drawnBy r p s ws d .words ≡ ws)
-stays-by zero p s ws d e = absurd (e (rule-answers p (nextState p s ws d)))
-stays-by (suc r) p s ws d e = (refl, refl)
+use Rattle.bucket_test.proofs.OneStep.{refused-stays}
 
 -- the refusal that is due to a draw: 9, 10 or none
 unfoldable pub due : ℕ → Bool → ℕ
@@ -221,9 +216,8 @@ module _ (p : Plan) (ok : Accepted p) (good : planRefusal p ≡ 0) (words : List
 
     stays : (d : ℕ) → ¬ (refusalOf (carried p words (d ∷ ds) .answer) ≡ 0)
         → (carried p words (d ∷ ds) .state ≡ carried p words ds .state) × (carried p words (d ∷ ds) .words ≡ carried p words ds .words)
-    unfolding carried drawn
-    stays d =
-        stays-by (drawRefusal p (carried p words ds .state) (carried p words ds .words) d) p (carried p words ds .state) (carried p words ds .words) d
+    unfolding carried
+    stays = refused-stays p (carried p words ds .state) (carried p words ds .words)
 
     pub demand-3-at : Demand3 p words ds
     unfolding stateFor

@@ -1,13 +1,11 @@
--- What a draw that nothing refuses may do, and each way out of a beginning, a draw and a run of draws, in plain variables.
+-- What a draw that nothing refuses may do, and each way out of a beginning and a draw, in plain variables.
 use mathlib.Core.Path.{_≡_, refl, sym, ap, _∙_}
 use mathlib.Core.Bool.{true, false, _&&_}
-use mathlib.Core.List.{List, [], _∷_}
+use mathlib.Core.List.{List}
 use Prim.Native.Nat.{ℕ, zero, suc, _+_, _*_, _≤_, _<_}
 use native.Mathlib.Nat.{le-of-lt}
-use native.Mathlib.Numerals.{add-one}
 use native.Mathlib.Omega.{arith}
-use lib.ListN.{length, drop, getD, drop-of-length-le}
-use lib.Seq.{drop-cons}
+use lib.ListN.{length}
 use Rattle.walk.specs.Numbers.{le?}
 use Rattle.walk.specs.Units.{million, wide, horizonLimit}
 use Rattle.walk.specs.Spending.{IsSpending}
@@ -21,8 +19,8 @@ use Rattle.plan.specs.Places.{overTo, joinTo}
 use Rattle.plan.specs.Plan.{thresholdAt, spendingOf, planRefusal, Accepted}
 use Rattle.bucket_test.specs.Words.{partAt, wordsFit}
 use Rattle.bucket_test.specs.Turn.{recordAt, MayTurn, recordSound, recordTurn, partTurn, soundAt, MayTurnAt}
-use Rattle.bucket_test.specs.Answers.{lowOf, highOf, answerOf, isEnding, goesOn}
-use Rattle.bucket_test.specs.Draw.{Outcome, drawnOf, outcomeOf, startState, startWords, noState, beginRefusal, begunBy, begun, stateSound, drawRefusal, nextState, nextWords, drawnBy, drawn, report, drawnOn}
+use Rattle.bucket_test.specs.Answers.{lowOf, highOf, answerOf, isEnding}
+use Rattle.bucket_test.specs.Draw.{Outcome, drawnOf, startState, startWords, noState, beginRefusal, begunBy, begun, stateSound, drawRefusal, nextState, nextWords, drawnBy, drawn, report}
 use Rattle.bucket_test.specs.declared.Threshold.{Threshold}
 use Rattle.bucket_test.specs.declared.State.{State}
 use Rattle.plan.specs.declared.Plan.{Plan}
@@ -169,25 +167,3 @@ module _ (p : Plan) (s : State) where
   pub report-0 : planRefusal p ≡ 0 → report p s ≡ record { answer = answerOf p s; low = lowOf p s; high = highOf p s }
   unfolding report
   report-0 e = rw e
-
--- ---- a run of draws ds from place i on, which is what the whole run is
-
-pub run-stops : (p : Plan) (o : Outcome) (ds : List ℕ) → goesOn (o .answer) ≡ false → drawnOn p o ds ≡ o
-unfolding drawnOn
-run-stops p o [] e = refl
-run-stops p o (d ∷ ds) e = rw e
-
-module _ (p : Plan) (d : Drawn) (ws ds : List ℕ) (i : ℕ) (whole : Outcome) (is : drawnOn p (outcomeOf d ws) (drop i ds) ≡ whole) where
-  pub run-end : length ds ≤ i → (d ≡ drawnOf whole) × (ws ≡ whole .words)
-  unfolding drawnOn
-  run-end h = hands (sym is ∙ ap (drawnOn p (outcomeOf d ws)) (drop-of-length-le ds {i = i} h)) refl refl
-
-  pub run-ended : goesOn (d .answer) ≡ false → (d ≡ drawnOf whole) × (ws ≡ whole .words)
-  run-ended e = hands (sym is ∙ run-stops p (outcomeOf d ws) (drop i ds) e) refl refl
-
-  pub run-on : i < length ds → goesOn (d .answer) ≡ true → (r : Drawn) (ws′ : List ℕ) → r ≡ drawnOf (drawn p (d .state) ws (getD ds i 0))
-      → ws′ ≡ drawn p (d .state) ws (getD ds i 0) .words → drawnOn p (outcomeOf r ws′) (drop (i + 1) ds) ≡ whole
-  unfolding drawnOn
-  run-on l h r ws′ r-is ws-is =
-      let here : whole ≡ drawnOn p (outcomeOf d ws) (getD ds i 0 ∷ drop (suc i) ds) = sym is ∙ ap (drawnOn p (outcomeOf d ws)) (drop-cons ds i 0 l) in
-      rw (here, h, r-is, ws-is, add-one i)

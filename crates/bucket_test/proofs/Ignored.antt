@@ -1,7 +1,7 @@
 -- Places past a count are ignored (specs/Ignored).
 use mathlib.Core.Path.{_≡_, refl, ap}
 use mathlib.Core.Bool.{Bool, _&&_}
-use mathlib.Core.List.{List, [], _∷_}
+use mathlib.Core.List.{List}
 use Prim.Native.Nat.{ℕ, zero, suc, _+_, _<_}
 use lib.ListN.{getD}
 use Rattle.walk.specs.Numbers.{le?}
@@ -9,7 +9,7 @@ use Rattle.plan.specs.Plan.{thresholdAt, allowanceAt, leftAt, rightAt, planRefu
 use Rattle.plan.specs.SameCounted.{SameRules}
 use Rattle.bucket_test.specs.Words.{wordsFit}
 use Rattle.bucket_test.specs.Answers.{lowOf, highOf, anyWide, answerOf}
-use Rattle.bucket_test.specs.Draw.{Outcome, startState, startWords, beginRefusal, begunBy, begun, stateSound, drawRefusal, nextState, nextWords, drawnBy, drawn, reportBy, report, drawnOn}
+use Rattle.bucket_test.specs.Draw.{startState, startWords, beginRefusal, begunBy, begun, stateSound, drawRefusal, nextState, nextWords, drawnBy, drawn, reportBy, report}
 use Rattle.bucket_test.specs.Ignored.{SameTest, IgnoredTheorem}
 use Rattle.bucket_test.specs.declared.Threshold.{Threshold}
 use Rattle.bucket_test.specs.declared.State.{State}
@@ -52,7 +52,7 @@ module _ (p : Plan) (thresholds allowances left right : List ℕ)
         go zero = rw (answer-same, low-same, high-same)
         go (suc r) = refl
 
-  -- ---- a beginning, a draw, a run of draws
+  -- ---- a beginning, a draw
 
   begun-same : (words : List ℕ) → begun q words ≡ begun p words
   unfolding begun beginRefusal wordsFit startWords
@@ -92,11 +92,6 @@ module _ (p : Plan) (thresholds allowances left right : List ℕ)
           go zero = rw (state-same, words-same, answer-same (nextState p s words d))
           go (suc r) = refl
 
-  run-same : (o : Outcome) (ds : List ℕ) → drawnOn q o ds ≡ drawnOn p o ds
-  unfolding drawnOn
-  run-same o [] = refl
-  run-same o (d ∷ ds) = rw (drawn-same (o .state) (o .words) d, run-same (drawn p (o .state) (o .words) d) ds)
-
   same : SameTest p q
   same = record {
     refusal-same = rules .refusal-same;
@@ -104,7 +99,6 @@ module _ (p : Plan) (thresholds allowances left right : List ℕ)
     report-same = report-same;
     begun-same = begun-same;
     drawn-same = drawn-same;
-    run-same = run-same;
   }
 
 pub ignored : IgnoredTheorem

@@ -61,15 +61,6 @@ isEnding Wide = true
 isEnding Spent = true
 isEnding (Refused r) = false
 
--- `open`: neither ended nor refused
-abbrev pub goesOn : Answer → Bool
-goesOn Open = true
-goesOn (Decided b) = false
-goesOn Crossed = false
-goesOn Wide = false
-goesOn Spent = false
-goesOn (Refused r) = false
-
 -- the number of the refusal, 0 where there is none; the number of the bucket, 0 unless decided
 abbrev pub refusalOf : Answer → ℕ
 refusalOf (Refused r) = r

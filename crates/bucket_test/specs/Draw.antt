@@ -1,5 +1,5 @@
 -- A beginning and a draw, of every plan, state, list of words and draw (01, "Words lent to a test", "Taking a draw" and "Order").
-use mathlib.Core.Bool.{Bool, true, false, not, _&&_}
+use mathlib.Core.Bool.{Bool, not, _&&_}
 use mathlib.Core.List.{List, [], _∷_}
 use Prim.Native.Nat.{ℕ, zero, suc, _+_}
 use lib.ListN.{replicate}
@@ -9,7 +9,7 @@ use Rattle.plan.specs.Places.{allTo, unless, firstRefusal, overTo, joinTo}
 use Rattle.plan.specs.Plan.{countLimit, planRefusal}
 use Rattle.bucket_test.specs.Words.{wordsFit}
 use Rattle.bucket_test.specs.Turn.{startRecord, noRecord, recordAt, recordTurn, partTurn, soundAt}
-use Rattle.bucket_test.specs.Answers.{lowOf, highOf, answerOf, isEnding, goesOn}
+use Rattle.bucket_test.specs.Answers.{lowOf, highOf, answerOf, isEnding}
 use Rattle.bucket_test.specs.declared.Threshold.{Threshold}
 use Rattle.bucket_test.specs.declared.State.{State}
 use Rattle.plan.specs.declared.Plan.{Plan}
@@ -103,13 +103,3 @@ reportBy (suc r) p s = record { answer = Refused (suc r); low = 0; high = 0 }
 
 unfoldable pub report : Plan → State → Report
 report p s = reportBy (planRefusal p) p s
-
--- ---- a run of draws from an outcome on: each while the answer is `open`
-
-abbrev pub whileOpen : Bool → Outcome → Outcome → Outcome
-whileOpen true o next = next
-whileOpen false o next = o
-
-unfoldable pub drawnOn : Plan → Outcome → List ℕ → Outcome
-drawnOn p o [] = o
-drawnOn p o (d ∷ ds) = whileOpen (goesOn (o .answer)) o (drawnOn p (drawn p (o .state) (o .words) d) ds)

@@ -5,7 +5,7 @@ use Prim.Native.Nat.{ℕ}
 use Rattle.plan.specs.Plan.{planRefusal}
 use Rattle.plan.specs.SameCounted.{SameCounted}
 use Rattle.bucket_test.specs.Answers.{answerOf}
-use Rattle.bucket_test.specs.Draw.{Outcome, begun, drawn, report, drawnOn}
+use Rattle.bucket_test.specs.Draw.{begun, drawn, report}
 use Rattle.bucket_test.specs.declared.State.{State}
 use Rattle.plan.specs.declared.Plan.{Plan}
 
@@ -16,7 +16,6 @@ pub record SameTest (p q : Plan) : Type 0 where
   pub report-same : (s : State) → report q s ≡ report p s
   pub begun-same : (words : List ℕ) → begun q words ≡ begun p words
   pub drawn-same : (s : State) (words : List ℕ) (d : ℕ) → drawn q s words d ≡ drawn p s words d
-  pub run-same : (o : Outcome) (ds : List ℕ) → drawnOn q o ds ≡ drawnOn p o ds
 
 -- of every two plans
 abbrev pub IgnoredTheorem : Type 0

@@ -1,4 +1,4 @@
-// A beginning, a draw, a run of draws, and the answer to a state (01, "Words lent to a test", "Taking a draw", "Order").
+// A beginning, a draw, and the answer to a state (rules 6, 7.3, 8.2).
 
 use crate::Answer;
 use crate::Drawn;
@@ -20,8 +20,8 @@ ghost use Prim.Native.Nat.{_*_, _≤_};
 ghost use lib.ListN.{length};
 ghost use Rattle.walk.specs.Units.{wide};
 ghost use Rattle.plan.specs.Plan.{planRefusal};
-ghost use Rattle.bucket_test.specs.Answers.{answerOf, isEnding, goesOn};
-ghost use Rattle.bucket_test.specs.Draw.{drawnOf, outcomeOf, begun, stateSound, nextState, nextWords, drawn, report, drawnOn};
+ghost use Rattle.bucket_test.specs.Answers.{answerOf, isEnding};
+ghost use Rattle.bucket_test.specs.Draw.{drawnOf, begun, stateSound, nextState, nextWords, drawn, report};
 
 // A refusal by its number, with a state.
 fn refused(number: u32, s: State) -> Drawn
@@ -142,39 +142,4 @@ pub fn report_on(p: Plan, s: State) -> Report
         low: v.low,
         high: v.high,
     }
-}
-
-// Whether a run of draws goes on after this answer: neither ended nor refused.
-pub fn is_open(a: Answer) -> bool
-    ensures { λ r. ⌜ r ≡ goesOn a ⌝ }
-{
-    match a {
-        Answer::Open => true,
-        Answer::Decided(_) => false,
-        Answer::Crossed => false,
-        Answer::Wide => false,
-        Answer::Spent => false,
-        Answer::Refused(_) => false,
-    }
-}
-
-// A run of draws after a call's outcome: each while the answer is `open`. Any plan, outcome, words and draws may be handed in.
-pub fn draw_all(p: Plan, d: Drawn, words: &mut [u64], draws: &[u8]) -> Drawn
-    ensures { λ r. ⌜
-        (r ≡ drawnOf (drawnOn p (outcomeOf d (now (words .entry))) (now (draws .entry))))
-        × (now (words .exit) ≡ drawnOn p (outcomeOf d (now (words .entry))) (now (draws .entry)) .words)
-        ⌝ }
-{
-    let mut drawn = d;
-    let mut i = 0;
-    while i < draws.len() {
-        let answer = drawn.answer;
-        if !is_open(answer) {
-            return drawn;
-        }
-        let state = drawn.state;
-        drawn = draw(p, state, words, draws[i]);
-        i += 1;
-    }
-    drawn
 }

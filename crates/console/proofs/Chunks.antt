@@ -1,17 +1,18 @@
 -- How the input is cut into reads does not matter: one text and then another is the two together.
-use mathlib.Core.Path.{_≡_, refl, _∙_}
+use mathlib.Core.Path.{_≡_, refl, ap, _∙_}
 use mathlib.Core.Bool.{Bool, true, false, cond}
 use mathlib.Core.List.{List, [], _∷_, _++_}
 use Prim.Native.Nat.{ℕ}
 use lib.ListN.{length, take, drop}
 use lib.Seq.{take-append-seam}
 use Rattle.plan.specs.Places.{eq?}
-use Rattle.bucket_test.specs.Draw.{Outcome, drawnOf, outcomeOf, drawnOn}
-use Rattle.bucket_test.proofs.Runs.{run-append}
+use Rattle.bucket_test.specs.Draw.{Outcome, outcomeOf}
 use Rattle.plan.specs.declared.Plan.{Plan}
 use Rattle.bucket_test.specs.declared.Drawn.{Drawn}
 use Rattle.console.specs.Input.{drawOf, drawsOf}
+use Rattle.console.specs.Run.{ran}
 use Rattle.console.specs.Program.{Taken}
+use Rattle.console.proofs.Runs.{run-append}
 
 draws-append : (xs ys : List ℕ) → drawsOf (xs ++ ys) ≡ drawsOf xs ++ drawsOf ys
 unfolding drawsOf
@@ -25,14 +26,13 @@ draws-append (c ∷ xs) ys = go (eq? c 10) (draws-append xs ys)
 
 -- a run over the draws that stand in the place of a chunk's characters
 pub fed : (p : Plan) (o : Outcome) (chunk₀ chunk : List ℕ) (m : ℕ) (d : Drawn) (words : List ℕ) → m ≡ length (drawsOf chunk₀)
-    → chunk ≡ drawsOf chunk₀ ++ drop m chunk₀ → d ≡ drawnOf (drawnOn p o (take m chunk)) → words ≡ drawnOn p o (take m chunk) .words
-    → outcomeOf d words ≡ drawnOn p o (drawsOf chunk₀)
-fed p o chunk₀ chunk m d words m-is chunk-is d-is words-is =
+    → chunk ≡ drawsOf chunk₀ ++ drop m chunk₀ → outcomeOf d words ≡ ran p o (take m chunk) → outcomeOf d words ≡ ran p o (drawsOf chunk₀)
+fed p o chunk₀ chunk m d words m-is chunk-is o-is =
     let draws : take m chunk ≡ drawsOf chunk₀ = rw (chunk-is, m-is) (take-append-seam (drawsOf chunk₀) (drop (length (drawsOf chunk₀)) chunk₀)) in
-    rw (d-is, words-is, draws)
+    o-is ∙ ap (ran p o) draws
 
 pub taken-none : (p : Plan) (d : Drawn) (words : List ℕ) → Taken p (outcomeOf d words) d words
-unfolding drawsOf drawnOn
+unfolding drawsOf ran
 taken-none p d words = record { text = []; outcome = refl }
 
 pub taken-more : (p : Plan) (o : Outcome) (d d′ : Drawn) (words words′ : List ℕ) → Taken p o d words → Taken p (outcomeOf d words) d′ words′

@@ -2,4 +2,5 @@
 mod Characters
 mod Chunks
 mod Lines
+pub mod Runs
 mod Programs

@@ -6,11 +6,12 @@ use native.Mathlib.Omega.{arith}
 use lib.ListN.{length, take, drop}
 use Rattle.walk.specs.Units.{wide}
 use Rattle.walk.proofs.Tests.{le?-complete, le?-fails}
-use Rattle.bucket_test.specs.Draw.{Outcome, drawnOf, outcomeOf, begun, drawnOn}
+use Rattle.bucket_test.specs.Draw.{Outcome, drawnOf, outcomeOf, begun}
 use Rattle.plan.specs.declared.Plan.{Plan}
 use Rattle.bucket_test.specs.declared.Drawn.{Drawn}
 use Rattle.stored_plan.specs.Reading.{decoded}
 use Rattle.stored_plan.specs.declared.Read.{Read}
+use Rattle.console.specs.Run.{ran}
 use Rattle.console.specs.Input.{drawsOf}
 use Rattle.console.specs.Line.{refusedLine, lineAfter, Holds}
 use Rattle.console.specs.Program.{Taken, Printed, played, servedBy, served, Prints}
@@ -21,7 +22,7 @@ pub plays : (p : Plan) (words words₁ words₂ : List ℕ) (b last : Drawn) (n 
     → Prints (played p words) n words₂ before after
 unfolding played
 plays p words words₁ words₂ b last n before after b-is w-is t h =
-    let e : outcomeOf last words₂ ≡ drawnOn p (begun p words) (drawsOf (t .text)) = rw (b-is, w-is) at (t .outcome) in
+    let e : outcomeOf last words₂ ≡ ran p (begun p words) (drawsOf (t .text)) = rw (b-is, w-is) at (t .outcome) in
     record {
       text = t .text;
       line-is = subst (λ (o : Outcome). Holds (lineAfter p (drawnOf o)) n before after) e h;

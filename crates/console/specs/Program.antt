@@ -7,17 +7,18 @@ use Prim.Native.Nat.{ℕ, zero, suc, _*_}
 use lib.ListN.{length, take, drop}
 use Rattle.walk.specs.Numbers.{le?}
 use Rattle.walk.specs.Units.{wide}
-use Rattle.bucket_test.specs.Draw.{Outcome, drawnOf, outcomeOf, begun, drawnOn}
+use Rattle.bucket_test.specs.Draw.{Outcome, drawnOf, outcomeOf, begun}
 use Rattle.plan.specs.declared.Plan.{Plan}
 use Rattle.bucket_test.specs.declared.Drawn.{Drawn}
 use Rattle.stored_plan.specs.Reading.{decoded}
 use Rattle.console.specs.Input.{drawsOf}
 use Rattle.console.specs.Line.{refusedLine, lineAfter, Holds}
+use Rattle.console.specs.Run.{ran}
 
 -- d and words are what the test o comes to when it is fed some text
 pub record Taken (p : Plan) (o : Outcome) (d : Drawn) (words : List ℕ) : Type 0 where
   pub text : List ℕ
-  pub outcome : outcomeOf d words ≡ drawnOn p o (drawsOf text)
+  pub outcome : outcomeOf d words ≡ ran p o (drawsOf text)
 
 -- what is printed, and the lent words then
 pub record Printed : Type 0 where
@@ -26,7 +27,7 @@ pub record Printed : Type 0 where
 
 -- a test on these words, from its beginning over a text
 unfoldable pub played : Plan → List ℕ → List ℕ → Printed
-played p words text = let o = drawnOn p (begun p words) (drawsOf text) in record { line = lineAfter p (drawnOf o); words = o .words }
+played p words text = let o = ran p (begun p words) (drawsOf text) in record { line = lineAfter p (drawnOf o); words = o .words }
 
 -- .. on the first 769 words for each threshold; 8 where there are fewer
 abbrev pub lentBy : Bool → Plan → List ℕ → List ℕ → Printed

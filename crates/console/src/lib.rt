@@ -3,3 +3,4 @@ pub mod feeding;
 pub mod input;
 pub mod line;
 pub mod program;
+mod running;

@@ -3,9 +3,9 @@
 use crate::feeding::feed;
 use crate::line::last_line;
 use crate::line::refused_line;
+use crate::running::answer_open;
 use bucket_test::Drawn;
 use bucket_test::drawing::begin;
-use bucket_test::drawing::is_open;
 use plan::Plan;
 use stored_plan::reading::read_plan;
 ghost use mathlib.Core.Path.{_≡_};
@@ -13,9 +13,9 @@ ghost use mathlib.Core.Bool.{_&&_};
 ghost use lib.ListN.{length};
 ghost use Rattle.io.specs.Counts.{Counts};
 ghost use Rattle.walk.specs.Numbers.{lt?};
-ghost use Rattle.bucket_test.specs.Answers.{goesOn};
-ghost use Rattle.bucket_test.specs.Draw.{outcomeOf, drawnOn};
+ghost use Rattle.bucket_test.specs.Draw.{outcomeOf};
 ghost use Rattle.console.specs.Input.{drawsOf};
+ghost use Rattle.console.specs.Run.{answerOpen, ran};
 ghost use Rattle.console.specs.Program.{Taken, Prints, played, served};
 
 // Where a test stands, and whether it takes more.
@@ -27,14 +27,14 @@ struct Fed {
 // The characters that one read gave. More is taken after an `open` answer, and not where there were none: the input has ended.
 fn take_chunk(p: Plan, d: Drawn, words: &mut [u64], chunk: &mut [u8]) -> Fed
     ensures { λ r. ⌜
-        (outcomeOf (r .drawn) (now (words .exit)) ≡ drawnOn p (outcomeOf d (now (words .entry))) (drawsOf (now (chunk .entry))))
-        × (r .more ≡ lt? 0 (length (now (chunk .entry))) && goesOn (r .drawn .answer))
+        (outcomeOf (r .drawn) (now (words .exit)) ≡ ran p (outcomeOf d (now (words .entry))) (drawsOf (now (chunk .entry))))
+        × (r .more ≡ lt? 0 (length (now (chunk .entry))) && answerOpen (r .drawn .answer))
         ⌝ }
 {
     let some = chunk.len() > 0;
     let drawn = feed(p, d, words, chunk);
     let answer = drawn.answer;
-    let more = some && is_open(answer);
+    let more = some && answer_open(answer);
     Fed { more, drawn }
 }
 
@@ -55,7 +55,7 @@ fn take_all(p: Plan, d: Drawn, input: i32, words: &mut [u64]) -> Drawn
 {
     let first = d.answer;
     let mut drawn = d;
-    let mut more = is_open(first);
+    let mut more = answer_open(first);
     let mut turns = u64::MAX;
     while turns > 0 && more {
         let fed = take_some(p, drawn, input, words);

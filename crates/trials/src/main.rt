@@ -2,7 +2,6 @@
 
 use bucket_test::drawing::begin;
 use bucket_test::drawing::draw;
-use bucket_test::drawing::draw_all;
 use console::line::last_line;
 use stored_plan::reading::read_plan;
 
@@ -31,9 +30,11 @@ fn after_the_end(d: u8) {
     let p = got.plan;
     let mut words = [0u64; 769];
     let begun = begin(p, &mut words);
-    let ones = [1u8; 5];
-    let ended = draw_all(p, begun, &mut words, &ones);
-    let last = ended.state;
+    let mut last = begun.state;
+    for _i in 0..5 {
+        let next = draw(p, last, &mut words, 1);
+        last = next.state;
+    }
     let again = draw(p, last, &mut words, d);
     let mut out = [0u8; 64];
     let len = last_line(p, again, &mut out);

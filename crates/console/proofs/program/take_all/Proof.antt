@@ -15,8 +15,8 @@ Inv-loop p input words₀ drawn₀ more₀ turns₀ words drawn more turns =
 abbrev μ-loop : tie.MeasureT-loop
 μ-loop p input words₀ drawn₀ more₀ turns₀ words drawn more turns = turns
 
-is-open-requires : tie.Need-is-open-requires Inv-loop μ-loop
-is-open-requires c κs = search needs
+answer-open-requires : tie.Need-answer-open-requires Inv-loop μ-loop
+answer-open-requires c κs = search needs
 
 loop-holds : tie.Need-loop-holds Inv-loop μ-loop
 loop-holds c = (refl, taken-none _ _ _)
@@ -53,7 +53,7 @@ take-all-spec =
     (tie.spec
     Inv-loop
     μ-loop
-    is-open-requires
+    answer-open-requires
     loop-holds
     take-some-requires
     sub-turns

@@ -11,8 +11,8 @@ use Rattle.console.proofs.program.take_chunk.Tie as tie
 feed-requires : tie.Need-feed-requires
 feed-requires c κs = search needs
 
-is-open-requires : tie.Need-is-open-requires
-is-open-requires c κs = search needs
+answer-open-requires : tie.Need-answer-open-requires
+answer-open-requires c κs = search needs
 
 same-length : tie.Need-same-length
 same-length c = search needs
@@ -24,7 +24,7 @@ returns : tie.Need-returns
 returns c =
     let f = c .before .before .before .before .before .before in
     let n = length (f .before .before .before .before .before .args .chunk .now) in
-    (f .feed .ensures .0, rw (le?-complete 1 n (ltb-true 0 n (c .before .if1 .taken))) (c .is-open .ensures))
+    (f .feed .ensures .0, rw (le?-complete 1 n (ltb-true 0 n (c .before .if1 .taken))) (c .answer-open .ensures))
 
 same-length-3 : tie.Need-same-length-3
 same-length-3 c = search needs
@@ -43,7 +43,7 @@ take-chunk-spec =
     tie.close
     (tie.spec
     feed-requires
-    is-open-requires
+    answer-open-requires
     same-length
     same-length-2
     returns
