@@ -1,4 +1,4 @@
--- A draw that nothing refuses is one step by 01's rules, whatever state was handed in (specs/OneStep).
+-- A draw that nothing refuses is one step by the rules, whatever state was handed in (specs/OneStep).
 use mathlib.Core.Path.{_≡_, refl, _∙_}
 use mathlib.Core.Bool.{Bool, true, false, not}
 use mathlib.Core.List.{List, [], _∷_}
@@ -45,7 +45,7 @@ module _ (a : ℕ) (threshold : a ≤ million) (E : ℕ → ℕ) (spends : IsSpe
   abbrev next : Row
   next = stepRow a (E (suc n)) (rowOf w part)
 
-  -- by count, as 01 has it
+  -- by count, as the rules have it
   abbrev stepped : Walk
   stepped = stepWalk a (E (suc n)) (suc n) (asWalk (rowOf w part))
 

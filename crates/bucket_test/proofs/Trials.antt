@@ -1,4 +1,4 @@
--- P1 to P10 of 01, in one statement.
+-- P1 to P10, in one statement.
 use mathlib.Core.Path.{refl}
 use Rattle.walk.specs.Numbers.{le?, searchUp, searchDown}
 use Rattle.walk.specs.Units.{M, million, massLimit, allowanceLimit, horizonLimit}

@@ -1,4 +1,4 @@
--- Interval and answer of a state under a plan (01, "Taking a draw": interval, answer). The state may be any; thresholds of an accepted plan
+-- Interval and answer of a state under a plan (rules 7). The state may be any; thresholds of an accepted plan
 -- are below 1,000,000.
 use mathlib.Core.Bool.{Bool, true, false, _&&_}
 use mathlib.Core.List.{List, [], _∷_}
@@ -50,7 +50,7 @@ answerBy p s low high =
 unfoldable pub answerOf : Plan → State → Answer
 answerOf p s = answerBy p s (lowOf p s) (highOf p s)
 
--- ---- what each case of an answer says in the paper
+-- ---- what each case of an answer says in the rules
 
 -- the four that end a test
 abbrev pub isEnding : Answer → Bool
@@ -87,7 +87,7 @@ wordOf Wide = 119 ∷ 105 ∷ 100 ∷ 101 ∷ []
 wordOf Spent = 115 ∷ 112 ∷ 101 ∷ 110 ∷ 116 ∷ []
 wordOf (Refused r) = 114 ∷ 101 ∷ 102 ∷ 117 ∷ 115 ∷ 101 ∷ 100 ∷ []
 
--- the paper's number and values of an answer to the state s, with its interval: the refusal's number, 0 for none; the word; the bucket's
+-- the rules' number and values of an answer to the state s, with its interval: the refusal's number, 0 for none; the word; the bucket's
 -- number; n, S, low, high
 pub record Values : Type 0 where
   pub number : ℕ

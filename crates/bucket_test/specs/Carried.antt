@@ -1,4 +1,4 @@
--- A test carried from a beginning over a list of draws (01, "Taking a draw"). Lists are latest first, as strings are: in `d ∷ ds` the
+-- A test carried from a beginning over a list of draws (rules 6.3). Lists are latest first, as strings are: in `d ∷ ds` the
 -- draw d follows ds.
 use mathlib.Core.Bool.{Bool, false, _||_}
 use mathlib.Core.List.{List, [], _∷_}

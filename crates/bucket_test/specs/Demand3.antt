@@ -1,4 +1,4 @@
--- Demand 3: what is claimed of a carried test. Definitions only.
+-- Demand 3 (rules 10.3): what is claimed of a carried test. Definitions only.
 use mathlib.Core.Path.{_≡_}
 use mathlib.Core.Logic.{_↔_, _⊎_}
 use mathlib.Core.Bool.{Bool, true}
@@ -59,7 +59,7 @@ module _ (p : Plan) (words : List ℕ) where
     -- no threshold walked past its first wide step
     pub not-continued : (i : ℕ) → i < p .count
         → NoWideBefore (thresholdAt p i) (spendingOf p i) (lastStep (recordAt (carried p words ds .state) i .mark) (length (taken p words ds)))
-    -- 01's facts of the walk of each threshold, at every step
+    -- the facts of the walk of each threshold, at every step
     pub facts : (i : ℕ) → i < p .count → (n : ℕ) → WalkFacts (thresholdAt p i) (spendingOf p i) n
     -- the chances: W, which is `meeting`, sums the weights of exactly the strings that meet the side's boundary first at some step, not past
     -- the first wide one ..

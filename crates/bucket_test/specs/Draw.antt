@@ -1,4 +1,4 @@
--- A beginning and a draw, of every plan, state, list of words and draw (01, "Words lent to a test", "Taking a draw" and "Order").
+-- A beginning and a draw, of every plan, state, list of words and draw (rules 6.1, 6.2, 8.2).
 use mathlib.Core.Bool.{Bool, not, _&&_}
 use mathlib.Core.List.{List, [], _∷_}
 use Prim.Native.Nat.{ℕ, zero, suc, _+_}
@@ -59,7 +59,7 @@ begun p words = begunBy (beginRefusal p words) p words
 
 -- ---- a draw: plan, 8, 9, 10, 11
 
--- refusal 11 (01: spoiled state), judged on the first K records only
+-- refusal 11 (rules 8.4), judged on the first K records only
 unfoldable pub stateSound : Plan → State → List ℕ → Bool
 stateSound p s words =
     le? (s .n) (p .horizon)

@@ -1,4 +1,4 @@
--- Places past a count are ignored (01, "The plan"): what is claimed of two plans that differ in such places only. Definitions only.
+-- Places past a count are ignored (rules 1.2): what is claimed of two plans that differ in such places only. Definitions only.
 use mathlib.Core.Path.{_≡_}
 use mathlib.Core.List.{List}
 use Prim.Native.Nat.{ℕ}

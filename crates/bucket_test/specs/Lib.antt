@@ -1,4 +1,4 @@
--- What a reader of this crate has to believe, in the order of the paper (01). Definitions only; the laws are in proofs/.
+-- What a reader of this crate has to believe, in the order of docs/RULES.md. Definitions only; the laws are in proofs/.
 pub mod Words
 pub mod Turn
 pub mod Answers

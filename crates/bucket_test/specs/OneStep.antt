@@ -1,5 +1,5 @@
--- A draw to any state that passes refusal 11, from a beginning or not: what is claimed of it is one step by 01's rules from what was
--- handed in (01, "Taking a draw"). Definitions only.
+-- A draw to any state that passes refusal 11, from a beginning or not: what is claimed of it is one step by the rules from what was
+-- handed in (rules 6.3). Definitions only.
 use mathlib.Core.Path.{_≡_}
 use mathlib.Core.List.{List}
 use Prim.Native.Nat.{ℕ, suc, _+_, _*_, _<_}

@@ -1,5 +1,5 @@
--- The trials of 01 that are proved, P1 to P10, and its two powers of 2: what is computed from the definitions beside what 01 prints, a line
--- each.
+-- The trials that are proved, P1 to P10 (rules 11.1), and the two powers of 2: what is computed from the definitions beside what the rules
+-- print, a line each.
 use mathlib.Core.Path.{_≡_}
 use mathlib.Core.List.{List, [], _∷_, map}
 use Prim.Native.Nat.{ℕ, _+_, _^_}
@@ -27,9 +27,9 @@ thresholdF = thresholdAt planF 0
 abbrev spending5 : ℕ → ℕ
 spending5 = spending 2199023255551 1
 
--- thresholds 10,000 and 50,000 with such an allowance each, and buckets 0 to `gap` and 50,000 to 1,000,000
-abbrev two : ℕ → ℕ → Plan
-two allowance gap = record {
+-- thresholds 10,000 and 50,000 with such an allowance each, and buckets 0 to `end` and 50,000 to 1,000,000
+abbrev planOfTwo : ℕ → ℕ → Plan
+planOfTwo allowance end = record {
   count = 2;
   buckets = 2;
   delay = 1000;
@@ -37,12 +37,12 @@ two allowance gap = record {
   thresholds = 10000 ∷ 50000 ∷ replicate 8 0;
   allowances = allowance ∷ allowance ∷ replicate 8 0;
   left = 0 ∷ 50000 ∷ replicate 14 0;
-  right = gap ∷ 1000000 ∷ replicate 14 0;
+  right = end ∷ 1000000 ∷ replicate 14 0;
 }
 
 -- ten draws taken, and the two thresholds so marked
-abbrev so : Mark → Mark → State
-so m k = record {
+abbrev stateMarked : Mark → Mark → State
+stateMarked m k = record {
   n = 10;
   ones = 1;
   records = record { mark = m; walked = startRecord .walked } ∷ record { mark = k; walked = startRecord .walked } ∷ replicate 8 startRecord;
@@ -76,13 +76,13 @@ computed =
     ∷ boundaries 400000 spending5 2
     ∷ boundaries 400000 spending5 3
     -- P7: low and high
-    ∷ (pos (lowOf (two 4398046511 50000) (so (Above 5) Open)) ∷ pos (highOf (two 4398046511 50000) (so (Above 5) Open)) ∷ [])
+    ∷ (pos (lowOf (planOfTwo 4398046511 50000) (stateMarked (Above 5) Open)) ∷ pos (highOf (planOfTwo 4398046511 50000) (stateMarked (Above 5) Open)) ∷ [])
     -- P8: the word
-    ∷ map pos (wordOf (answerOf (two 4398046511 50000) (so (AtMost 5) (Above 5))))
+    ∷ map pos (wordOf (answerOf (planOfTwo 4398046511 50000) (stateMarked (AtMost 5) (Above 5))))
     -- P9
-    ∷ (pos (planRefusal (two 2199023255552 50000)) ∷ [])
+    ∷ (pos (planRefusal (planOfTwo 2199023255552 50000)) ∷ [])
     -- P10
-    ∷ (pos (planRefusal (two 4398046511 10000)) ∷ [])
+    ∷ (pos (planRefusal (planOfTwo 4398046511 10000)) ∷ [])
     ∷ []
 
 unfoldable pub printed : List (List ℤ)

@@ -1,4 +1,4 @@
--- One threshold in a draw (01, "Taking a draw"), and what refusal 11 asks of one.
+-- One threshold in a draw (rules 6.2), and what refusal 11 asks of one.
 use mathlib.Core.Bool.{Bool, _&&_}
 use mathlib.Core.List.{List}
 use Prim.Native.Nat.{ℕ}

@@ -1,4 +1,4 @@
--- The words lent to a test (01, "Words lent to a test").
+-- The words lent to a test (rules 5.1).
 use mathlib.Core.Path.{_≡_}
 use mathlib.Core.Bool.{Bool}
 use mathlib.Core.List.{List}

@@ -34,7 +34,7 @@ fn refused(number: u32, s: State) -> Drawn
     }
 }
 
-// Beginning: every part is written, unless the plan or the number of words is refused (01, refusals 1 to 6 and 8). Any plan and any
+// Beginning: every part is written, unless the plan or the number of words is refused (rules 6.1). Any plan and any
 // words may be handed in.
 pub fn begin(p: Plan, words: &mut [u64]) -> Drawn
     ensures { λ r. ⌜ (r ≡ drawnOf (begun p (now (words .entry)))) × (now (words .exit) ≡ begun p (now (words .entry)) .words) ⌝ }
@@ -91,7 +91,7 @@ fn take_one(p: Plan, s: State, words: &mut [u64], d: u8) -> State
     }
 }
 
-// A draw, judged by plan, 8, 9, 10 and 11 in this order (01, "Order"). Any plan, state, words and draw may be handed in; a refusal hands
+// A draw, judged by plan, 8, 9, 10 and 11 in this order (rules 8.2). Any plan, state, words and draw may be handed in; a refusal hands
 // back the state it was given.
 pub fn draw(p: Plan, s: State, words: &mut [u64], d: u8) -> Drawn
     ensures { λ r. ⌜ (r ≡ drawnOf (drawn p s (now (words .entry)) d)) × (now (words .exit) ≡ drawn p s (now (words .entry)) d .words) ⌝ }

@@ -1,4 +1,4 @@
--- A plan has no refusal exactly when it keeps the rules in words (01, "The plan"), and what an accepted plan gives the walk.
+-- A plan has no refusal exactly when it keeps the rules in words (rules 1.4), and what an accepted plan gives the walk.
 use mathlib.Core.Path.{_≡_, refl}
 use mathlib.Core.Bool.{true}
 use mathlib.Core.List.{List, [], _∷_}

@@ -1,4 +1,4 @@
--- The plan and its rules (01, "The plan", and refusals 1 to 6 in "Who can cause which refusal").
+-- The plan and its rules (rules 1).
 use mathlib.Core.Bool.{Bool, true, not, _&&_, _||_}
 use mathlib.Core.List.{[], _∷_}
 use mathlib.Core.Logic.{_⊎_, _↔_}
@@ -11,7 +11,7 @@ use Rattle.walk.specs.Spending.{spending}
 use Rattle.plan.specs.Places.{eq?, within, allTo, anyTo, unless, firstRefusal}
 use Rattle.plan.specs.declared.Plan.{Plan}
 
--- the most thresholds and buckets, the largest threshold, in millionths, and the largest delay (01, "The plan"; the largest allowance and
+-- the most thresholds and buckets, the largest threshold, in millionths, and the largest delay (rules 1.4; the largest allowance and
 -- horizon are in walk/specs/Units)
 abbrev pub countLimit : ℕ
 countLimit = 10
@@ -108,7 +108,7 @@ module _ (p : Plan) where
   unfoldable pub Covered : Type 0
   Covered = (x y : ℕ) → 0 < y → x ≤ y → (j : ℕ) × (j < p .buckets) × Holds x y j
 
-  -- (01: an accepted plan)
+  -- an accepted plan keeps them all
   pub record Accepted : Type 0 where
     pub count-range : (1 ≤ p .count) × (p .count ≤ countLimit)
     pub buckets-range : (2 ≤ p .buckets) × (p .buckets ≤ bucketLimit)

@@ -1,4 +1,4 @@
--- Plan F, the plan of the examples (01, "The program").
+-- Plan F, the plan of the examples (rules 11).
 use mathlib.Core.List.{_∷_}
 use lib.ListN.{replicate}
 use Rattle.plan.specs.declared.Plan.{Plan}

@@ -1,4 +1,4 @@
--- Places past a count are ignored (01, "The plan"): two plans that differ in such places only. Definitions only.
+-- Places past a count are ignored (rules 1.2): two plans that differ in such places only. Definitions only.
 use mathlib.Core.Path.{_≡_}
 use Prim.Native.Nat.{ℕ, _<_}
 use Rattle.plan.specs.Plan.{thresholdAt, allowanceAt, leftAt, rightAt, spendingOf, planRefusal}

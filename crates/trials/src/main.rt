@@ -1,4 +1,4 @@
-// The trials of 01 that are not marked P, and the program's other ends: each a run on a plan and an input of data/, one line for each.
+// The trials that are run (rules 11.2), and the program's other ends: each a run on a plan and an input of data/, one line for each.
 
 use bucket_test::drawing::begin;
 use bucket_test::drawing::draw;

@@ -1,4 +1,4 @@
-// The program: the file `plan`, draws from standard input, one line to standard output (01, "The program"). One byte more than the longest
+// The program: the file `plan`, draws from standard input, one line to standard output (rules 9). One byte more than the longest
 // plan has is enough to tell a longer file (stored_plan/specs/RoundTrip, `CutReading`).
 fn main() {
     let mut words = [0u64; 7690];

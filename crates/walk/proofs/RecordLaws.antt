@@ -49,7 +49,7 @@ padded-word masses j = go masses (wide - length masses) j
     go (x ∷ xs) k zero = refl
     go (x ∷ xs) k (suc j) = go xs k j
 
--- ---- a row that is a walk, by count: its record and its words as 01 names them
+-- ---- a row that is a walk, by count: its record and its words as the rules name them
 
 module _ {w : Walk} {r : Row} (s : Same w r) where
   -- the record holds the walk's boundaries and spent masses

@@ -1,4 +1,4 @@
--- The facts of 01: of one step from any sound row, and of the walk at every step.
+-- The facts of the walk: of one step from any sound row, and of the walk at every step.
 use mathlib.Core.Path.{_≡_, ap, _∙_}
 use mathlib.Core.Logic.{_⊎_, inl, inr}
 use Prim.Native.Nat.{ℕ, zero, suc, _+_, _-_, _≤_, _<_}

@@ -23,7 +23,7 @@ module _ (a : ℕ) (E : ℕ → ℕ) where
   unfoldable pub meeting : Side → ℕ → ℕ
   meeting side n = chance a million n (meets? side)
 
--- a side's spent mass (01: spent mass)
+-- a side's spent mass
 abbrev pub spent : Side → Walk → ℕ
 spent Upper w = w .over
 spent Lower w = w .under

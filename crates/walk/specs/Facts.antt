@@ -1,4 +1,4 @@
--- What is claimed of one step and of a walk (01, "Facts to be proved").
+-- What is claimed of one step and of a walk (rules 3.8).
 use mathlib.Core.Path.{_≡_}
 use mathlib.Core.Bool.{true}
 use mathlib.Core.Logic.{_⊎_}
@@ -43,7 +43,7 @@ pub record StepFacts (a e n : ℕ) (r : Row) : Type 0 where
   -- both boundaries exist: they are those of rules 2 and 3, and no other number is (proofs/Searches)
   pub upper-is : Smallest (FitsUpper (suc n) e (newMass a (byCount (r .first) (r .masses))) (r .over)) 1 (1 + suc n) (upper (stepRow a e r))
   pub lower-is : Largest (FitsLower (suc n) e (newMass a (byCount (r .first) (r .masses))) (r .under)) 0 (suc (suc n)) (stepRow a e r .first)
-  -- it is the step of 01, masses and spent masses too
+  -- it is the step of the rules, masses and spent masses too
   pub same : Same (stepWalk a e (suc n) (asWalk r)) (stepRow a e r)
   -- a live count is left, each spent mass is at most e, and no mass is lost
   pub sound : Sound e (stepRow a e r)
@@ -83,6 +83,6 @@ pub record WalkFacts (a : ℕ) (E : ℕ → ℕ) (n : ℕ) : Type 0 where
 abbrev pub AgreementTheorem : Type 0
 AgreementTheorem = (a : ℕ) → a ≤ million → (E : ℕ → ℕ) → IsSpending E → (n : ℕ) → Same (walk a E n) (rows a E n)
 
--- .. and 01's facts hold
+-- .. and the facts hold
 abbrev pub WalkTheorem : Type 0
 WalkTheorem = (a : ℕ) → a ≤ million → (E : ℕ → ℕ) → IsSpending E → (n : ℕ) → WalkFacts a E n

@@ -1,4 +1,4 @@
--- One new mass (01, "The walk", rule 1), and whether it was rounded.
+-- One new mass (rules 3.3), and whether it was rounded.
 use Prim.Native.Nat.{ℕ, _+_, _*_, _-_, _/_, _%_}
 use Rattle.walk.specs.Numbers.{lt?, only}
 use Rattle.walk.specs.Units.{million}

@@ -14,7 +14,7 @@ unfoldable pub firstAbove : ℤ → ℕ
 firstAbove (pos b) = suc b
 firstAbove (negsuc b) = 0
 
--- the row of a record and its words: word i is the mass at count lower + 1 + i (01, "Words lent to a test")
+-- the row of a record and its words: word i is the mass at count lower + 1 + i (rules 5.1)
 unfoldable pub rowOf : Walked → List ℕ → Row
 rowOf w words = record {
   first = firstAbove (w .lower);

@@ -1,5 +1,5 @@
 -- The same walk in the form that runs: a row, the list of the live masses from the first live count on, which the words of the threshold's
--- part hold (01: part). proofs/Agreement shows that both forms agree at every step.
+-- part hold. proofs/Agreement shows that both forms agree at every step.
 use mathlib.Core.List.{List, [], _∷_}
 use Prim.Native.Nat.{ℕ, zero, suc, _+_, _-_, _≤_, _<_}
 use lib.ListN.{length, take, drop, getD}

@@ -13,7 +13,7 @@ use Rattle.walk.specs.Row.{Sound, total}
 use Rattle.walk.specs.Record.{firstAbove, rowOf}
 use Rattle.walk.specs.declared.Walked.{Walked}
 
--- 01, refusal 11 (01: spoiled state), of an open threshold, in its order: n draws with s ones, e = E(n). Of any record and any words.
+-- refusal 11 (rules 8.4), of an open threshold, in its order: n draws with s ones, e = E(n). Of any record and any words.
 module _ (e n s : ℕ) (w : Walked) where
   -- lower < -1, upper > n + 1, upper - lower < 2 or > 770, s at or beyond a boundary, or a spent mass over e: none of these
   unfoldable pub boundariesSound : Bool

@@ -1,4 +1,4 @@
--- Spending: how much of its allowance each side of a threshold may have spent after n draws (01: spent allowance, E).
+-- Spending: how much of its allowance each side of a threshold may have spent after n draws (rules 3.1).
 use Prim.Native.Nat.{ℕ, suc, _+_, _*_, _/_, _≤_, _<_}
 use Rattle.walk.specs.Units.{M}
 

@@ -1,4 +1,4 @@
--- Strings of draws, their weights and chances, and which boundary a string meets first (01, "The walk").
+-- Strings of draws, their weights and chances, and which boundary a string meets first (rules 4.1, 4.2).
 use mathlib.Core.Bool.{Bool, true, false}
 use mathlib.Core.List.{List, [], _∷_}
 use Prim.Native.Nat.{ℕ, zero, suc, _+_, _*_, _-_, _≤_, _<_}
@@ -11,7 +11,7 @@ use Rattle.walk.specs.declared.Mark.the-variants.{Open, Above, AtMost}
 abbrev pub Draws : Type 0
 Draws = List Bool
 
--- the ones among them (01: S)
+-- the ones among them
 abbrev pub ones : Draws → ℕ
 ones [] = 0
 ones (true ∷ s) = suc (ones s)

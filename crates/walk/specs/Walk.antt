@@ -1,4 +1,4 @@
--- The walk of one threshold a, as 01 has it: masses by count, boundaries by search. (01: bars; here boundaries.)
+-- The walk of one threshold a, as the rules have it (rules 3.2 to 3.7): masses by count, boundaries by search.
 use mathlib.Core.Path.{_≡_}
 use mathlib.Core.Bool.{Bool, true, false, not, _&&_}
 use Prim.Native.Nat.{ℕ, zero, suc, _+_, _≤_, _<_}
@@ -25,7 +25,7 @@ pub record Walk : Type 0 where
 abbrev pub isLive : ℕ → ℕ → ℕ → Bool
 isLive first upper c = le? first c && lt? c upper
 
--- (01: lower bar)
+-- the lower boundary
 unfoldable pub lower : Walk → ℤ
 lower w = below (w .first)
 
@@ -54,14 +54,14 @@ massFrom t g j = sumTo (suc t) (λ c. only (le? j c) (g c))
 unfoldable pub massBelow : ℕ → (ℕ → ℕ) → ℕ → ℕ
 massBelow t g f = sumTo (suc t) (λ c. only (lt? c f) (g c))
 
--- rule 2, with e = E(t), the new masses g and the upper spent mass: j may be the upper boundary (01: upper bar); the smallest such j from 1 to t + 1
+-- rule 2, with e = E(t), the new masses g and the upper spent mass: j may be the upper boundary; the smallest such j from 1 to t + 1
 abbrev pub FitsUpper : ℕ → ℕ → (ℕ → ℕ) → ℕ → ℕ → Type 0
 FitsUpper t e g over j = massFrom t g j + over ≤ e
 
 unfoldable pub upperBoundary : ℕ → ℕ → (ℕ → ℕ) → ℕ → ℕ
 upperBoundary t e g over = searchUp t 1 (λ j. le? (massFrom t g j + over) e)
 
--- rule 3: f - 1 may be the lower boundary (01: lower bar); the largest such f - 1 from -1 to t
+-- rule 3: f - 1 may be the lower boundary; the largest such f - 1 from -1 to t
 abbrev pub FitsLower : ℕ → ℕ → (ℕ → ℕ) → ℕ → ℕ → Type 0
 FitsLower t e g under f = massBelow t g f + under ≤ e
 

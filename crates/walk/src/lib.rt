@@ -1,4 +1,4 @@
-// The walk of one threshold: its spending, its masses and its boundaries, one step at a time (01, "The walk of one threshold").
+// The walk of one threshold: its spending, its masses and its boundaries, one step at a time (rules 3).
 
 mod mass;
 mod row;
@@ -21,14 +21,14 @@ pub const HORIZON_LIMIT: u32 = 50000;
 
 pub const ALLOWANCE_LIMIT: u64 = 2199023255551;
 
-// How the draws stand to a threshold: open, or settled at a step (01: mark).
+// How the draws stand to a threshold: open, or settled at a step (rules 6).
 pub enum Mark {
     Open,
     Above(u32),
     AtMost(u32),
 }
 
-// Where a walk stands after a step: its boundaries (01: bars), between which the live counts lie, and its upper and lower spent mass.
+// Where a walk stands after a step: its boundaries, between which the live counts lie, and its upper and lower spent mass.
 pub struct Walked {
     pub lower: i32,
     pub upper: u32,

@@ -1,4 +1,4 @@
-// One new mass (01, "The walk of one threshold", rule 1).
+// One new mass (rules 3.3).
 
 use crate::MILLION;
 ghost use mathlib.Core.Path.{_≡_};

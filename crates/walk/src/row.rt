@@ -1,4 +1,4 @@
-// The four rules of a step, on the words of one threshold's part (01, "The walk of one threshold").
+// The four rules of a step, on the words of one threshold's part (rules 3.3 to 3.6).
 
 use crate::mass::mass_up;
 ghost use mathlib.Core.Path.{_≡_};
@@ -107,7 +107,7 @@ fn shift_down(part: &mut [u64], lo: usize, k: usize)
     }
 }
 
-// Every word from k on becomes zero (01, "Words lent to a test").
+// Every word from k on becomes zero (rules 5.1).
 pub(crate) fn clear_from(part: &mut [u64], k: usize)
     requires { ⌜ k ≤ length (now part) ⌝ }
     ensures { λ r. ⌜ now (part .exit) ≡ take k (now (part .entry)) ++ replicate (length (now (part .entry)) - k) 0 ⌝ }

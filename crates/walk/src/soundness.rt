@@ -1,4 +1,4 @@
-// Whether a state that was handed in may be walked on (01, refusal 11, of an open threshold).
+// Whether a state that was handed in may be walked on (rules 8.4, of an open threshold).
 
 use crate::M;
 use crate::MASS_LIMIT;
@@ -117,7 +117,7 @@ pub fn is_sound(part: &[u64], w: Walked, n: u32, ones: u32, e: u64) -> bool
     is_whole(live, w.over, w.under)
 }
 
-// Wide: upper - lower - 1 is 769 (01, "The walk of one threshold"). Of any boundaries: the difference is taken in 64 bits.
+// Wide: upper - lower - 1 is 769 (rules 3.7). Of any boundaries: the difference is taken in 64 bits.
 pub fn is_wide(w: Walked) -> bool
     ensures { λ r. ⌜ r ≡ isWide w ⌝ }
 {

@@ -1,4 +1,4 @@
-// What a side of a threshold may have spent (01, "The walk of one threshold": spent allowance).
+// What a side of a threshold may have spent (rules 3.1).
 
 ghost use mathlib.Core.Path.{_≡_};
 ghost use Prim.Native.Nat.{_≤_};

@@ -1,4 +1,4 @@
-// One step of a walk (01, "The walk of one threshold", step t).
+// One step of a walk (rules 3.3 to 3.6).
 
 use crate::Walked;
 use crate::row::spread;
