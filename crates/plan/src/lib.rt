@@ -1,11 +1,12 @@
 // The plan of a test, and its rules.
 pub mod rules;
 
-// The limits of a plan, as specs/Plan has them: the most thresholds and buckets, the largest threshold and delay.
+// The most thresholds and buckets. These are the limits of specs/Plan.
 pub const COUNT_LIMIT: usize = 10;
 
 pub const BUCKET_LIMIT: usize = 16;
 
+// The largest threshold, in millionths, and the largest delay.
 pub const THRESHOLD_LIMIT: u32 = 999999;
 
 pub const DELAY_LIMIT: u32 = 65535;

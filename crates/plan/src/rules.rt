@@ -13,6 +13,7 @@ use walk::ALLOWANCE_LIMIT;
 use walk::HORIZON_LIMIT;
 use walk::MILLION;
 
+// The limits of the counts, as numbers like them.
 const MOST_THRESHOLDS: u32 = COUNT_LIMIT as u32;
 
 const MOST_BUCKETS: u32 = BUCKET_LIMIT as u32;
@@ -124,8 +125,8 @@ fn buckets_fit(p: Plan) -> bool
     ensures { λ r. ⌜ r ≡ rule5 p ⌝ }
 {
     let k = p.count as usize;
-    let b = p.buckets as usize;
-    for j in 0..b {
+    let buckets = p.buckets as usize;
+    for j in 0..buckets {
         let left = p.left[j];
         let right = p.right[j];
         if !bucket_fits(&p.thresholds, k, left, right) {

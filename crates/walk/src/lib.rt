@@ -7,16 +7,19 @@ pub mod spending;
 pub mod starting;
 pub mod step;
 
-// The fixed numbers of the rules, as specs/Units has them: the whole, thresholds' millionths, the live counts of a wide walk, and the largest
-// live word, horizon and allowance.
+// The whole, in units of 1/2^42. It and the numbers below are those of specs/Units.
 pub const M: u64 = 4398046511104;
 
+// Thresholds are in millionths.
 pub const MILLION: u32 = 1000000;
 
+// The live counts of a wide walk, and the words of one threshold's part.
 pub const WIDE: usize = 769;
 
+// The largest live word of a state that is not spoiled.
 pub const MASS_LIMIT: u64 = 8796093022208;
 
+// The largest horizon, in draws, and the largest allowance.
 pub const HORIZON_LIMIT: u32 = 50000;
 
 pub const ALLOWANCE_LIMIT: u64 = 2199023255551;

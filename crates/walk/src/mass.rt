@@ -6,7 +6,7 @@ ghost use Prim.Native.Nat.{_≤_};
 ghost use Rattle.walk.specs.Units.{million, massLimit};
 ghost use Rattle.walk.specs.Mass.{massUp};
 
-// A unit in millionths, and the most that is less.
+// A unit in millionths of a unit, and the most that is less.
 const UNIT: u64 = MILLION as u64;
 
 const LESS: u64 = UNIT - 1;

@@ -15,9 +15,10 @@ ghost use Rattle.walk.specs.Walk.{below};
 ghost use Rattle.walk.specs.Record.{firstAbove, isWide};
 ghost use Rattle.walk.specs.Soundness.{boundariesSound, isSound};
 
-// How far apart the boundaries of a wide walk are; what `all_fit` adds to a word, and what tells then.
+// How far apart the boundaries of a wide walk are.
 const WIDE_APART: i64 = WIDE as i64 + 1;
 
+// What `all_fit` adds to each word, and the number that tells then.
 const BELOW_LIMIT: u64 = MASS_LIMIT - 1;
 
 const TWICE_LIMIT: u64 = 2 * MASS_LIMIT;

@@ -9,16 +9,16 @@ use Rattle.plan.proofs.rules.buckets_fit.Statement.{statement}
 use Rattle.plan.proofs.rules.buckets_fit.Tie as tie
 
 abbrev Inv-loop : tie.InvT-loop
-Inv-loop p k b j₀ j = Sought false (bucketFits p) b j
+Inv-loop p k buckets j₀ j = Sought false (bucketFits p) buckets j
 
 abbrev μ-loop : tie.MeasureT-loop
-μ-loop p k b j₀ j = b - j
+μ-loop p k buckets j₀ j = buckets - j
 
 cast-k : tie.Need-cast-k Inv-loop μ-loop
 cast-k c = search needs
 
-cast-b : tie.Need-cast-b Inv-loop μ-loop
-cast-b c = search needs
+cast-buckets : tie.Need-cast-buckets Inv-loop μ-loop
+cast-buckets c = search needs
 
 loop-holds : tie.Need-loop-holds Inv-loop μ-loop
 loop-holds c = sought-none false _
@@ -70,7 +70,7 @@ buckets-fit-spec =
     Inv-loop
     μ-loop
     cast-k
-    cast-b
+    cast-buckets
     loop-holds
     mul-left
     element-copy-out-left

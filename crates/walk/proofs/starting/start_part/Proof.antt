@@ -8,7 +8,8 @@ use Rattle.walk.proofs.starting.start_part.Statement.{statement}
 use Rattle.walk.proofs.starting.start_part.Tie as tie
 
 clear-from-requires : tie.Need-clear-from-requires
-clear-from-requires c κs = search needs
+unfolding wide
+clear-from-requires c κs = omega (arith, c .before .before .pre)
 
 slice-write-part : tie.Need-slice-write-part
 unfolding wide
