@@ -1,4 +1,4 @@
--- Plan F is its 44 bytes, both ways (01, "The program"), and refusals come in their order.
+-- Plan F is its 44 bytes, both ways, and refusals come in their order (specs/Trials).
 use mathlib.Core.Path.{refl}
 use Rattle.walk.specs.Numbers.{le?}
 use Rattle.walk.specs.Units.{million, allowanceLimit, horizonLimit}
