@@ -12,7 +12,7 @@ use Rattle.bucket_test.specs.declared.Plan.{Plan}
 use Rattle.bucket_test.proofs.PlaceLists.{join-length}
 use Rattle.bucket_test.proofs.Rules.{Counted}
 use Rattle.stored_plan.specs.Little.{toLE, field, putAt}
-use Rattle.stored_plan.specs.Form.{pair, headerSize, bucketOffset, formSize, formLimit, header, thresholdEntries, bucketEntries, encoded}
+use Rattle.stored_plan.specs.Form.{headerSize, thresholdSize, bucketSize, bucketOffset, formSize, formLimit, pair, header, thresholdEntries, bucketEntries, encoded}
 use Rattle.stored_plan.proofs.LittleLaws.{to-length, field-left, field-right}
 use Rattle.stored_plan.proofs.Putting.{put-none, put-first, then}
 
@@ -77,18 +77,18 @@ module _ (p : Plan) where
   unfolding header
   header-length = simp (length-append, to-length)
 
-  pub thresholds-length : length (thresholdEntries p) ≡ 12 * p .count
+  pub thresholds-length : length (thresholdEntries p) ≡ thresholdSize * p .count
   unfolding thresholdEntries
-  thresholds-length = join-size _ 12 (pair-length 4 8 (p .thresholds) (p .allowances)) (p .count)
+  thresholds-length = join-size _ thresholdSize (pair-length 4 8 (p .thresholds) (p .allowances)) (p .count)
 
   -- the parts before the buckets
   pub front-length : length (header p ++ thresholdEntries p) ≡ bucketOffset (p .count)
   unfolding bucketOffset
   front-length = omega (arith, length-append (header p) (thresholdEntries p), header-length, thresholds-length)
 
-  buckets-length : length (bucketEntries p) ≡ 8 * p .buckets
+  buckets-length : length (bucketEntries p) ≡ bucketSize * p .buckets
   unfolding bucketEntries
-  buckets-length = join-size _ 8 (pair-length 4 4 (p .left) (p .right)) (p .buckets)
+  buckets-length = join-size _ bucketSize (pair-length 4 4 (p .left) (p .right)) (p .buckets)
 
   pub encoded-length : length (encoded p) ≡ formSize (p .count) (p .buckets)
   unfolding encoded formSize bucketOffset

@@ -7,14 +7,14 @@ use native.Mathlib.Omega.{arith}
 use lib.ListN.{length, take, drop}
 use lib.Seq.{length-take-le, take-all, take-at, drop-at}
 use Rattle.bucket_test.specs.Tests.{overTo}
-use Rattle.bucket_test.specs.Plan.{countsFit}
+use Rattle.bucket_test.specs.Plan.{countLimit, bucketLimit, countsFit}
 use Rattle.bucket_test.specs.declared.Plan.{Plan}
 use Rattle.bucket_test.specs.Ignored.{SameCounted}
 use Rattle.bucket_test.proofs.PlaceLaws.{le-or-lt}
 use Rattle.bucket_test.proofs.PlaceLists.{join-cong}
 use Rattle.bucket_test.proofs.Rules.{accepted}
 use Rattle.bucket_test.proofs.Ignored.{ignored}
-use Rattle.stored_plan.specs.Form.{formSize, formLimit, header, thresholdEntries, bucketEntries, encoded}
+use Rattle.stored_plan.specs.Form.{countField, bucketsField, formSize, formLimit, header, thresholdEntries, bucketEntries, encoded}
 use Rattle.stored_plan.specs.Reading.{filled, countIn, bucketsIn, planIn, readRefusal, noPlan, decodedBy, decoded}
 use Rattle.stored_plan.specs.Writing.{writeRefusal, writtenBy, bytesBy, written, bytesAfter}
 use Rattle.stored_plan.specs.RoundTrip.{PlanBack, BytesBack, WrittenBack, ReadBack, FormLength, cutAt, CutReading, AcceptedForms, AcceptedWritings}
@@ -63,7 +63,7 @@ form-length-holds p e =
 module _ (n : ℕ) (h : formLimit < n) (bytes : List ℕ) (l : n ≤ length bytes) where
   counts-cut : countsFit (countIn (take n bytes)) (bucketsIn (take n bytes)) ≡ countsFit (countIn bytes) (bucketsIn bytes)
   unfolding countIn bucketsIn
-  counts-cut = rw (field-cut 2 0 n bytes (omega arith) l, field-cut 2 2 n bytes (omega arith) l)
+  counts-cut = rw (field-cut 2 countField n bytes (omega arith) l, field-cut 2 bucketsField n bytes (omega arith) l)
 
   cut-same : decoded (take n bytes) ≡ decoded bytes
   cut-same =
@@ -107,8 +107,8 @@ unfolding noPlan filled overTo
 zeros = record {
   counts = (refl, refl);
   times = (refl, refl);
-  entries = λ i. (filled-past 10 0 (λ k. k) i (omega arith), filled-past 10 0 (λ k. k) i (omega arith));
-  ends = λ j. (filled-past 16 0 (λ k. k) j (omega arith), filled-past 16 0 (λ k. k) j (omega arith));
+  entries = λ i. (filled-past countLimit 0 (λ k. k) i (omega arith), filled-past countLimit 0 (λ k. k) i (omega arith));
+  ends = λ j. (filled-past bucketLimit 0 (λ k. k) j (omega arith), filled-past bucketLimit 0 (λ k. k) j (omega arith));
 }
 
 pub none-on-refusal-holds : NoneOnRefusal

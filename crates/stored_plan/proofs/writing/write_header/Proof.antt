@@ -1,9 +1,10 @@
 -- Its three pairs, one behind the other.
-use mathlib.Core.List.{append-assoc}
+use mathlib.Core.List.{_++_, append-assoc}
 use native.Mathlib.Omega.{arith}
 use borrow.Author.Needs.{needs}
 use lib.ListN.{length-append}
-use Rattle.stored_plan.specs.Form.{header}
+use Rattle.stored_plan.specs.Little.{toLE}
+use Rattle.stored_plan.specs.Form.{headerSize, header}
 use Rattle.stored_plan.proofs.LittleLaws.{to-length}
 use Rattle.stored_plan.proofs.Putting.{then}
 use Rattle.stored_plan.proofs.writing.write_header.Statement.{statement}
@@ -41,14 +42,17 @@ unfolding header
 returns c =
     let to-times = c .before .before in
     let to-offsets = to-times .before .before .before .before .before .before in
-    let at = to-offsets .before .bucket-offset .ensures in
+    let at = to-offsets .before .bucket-offset in
     let to-counts = to-offsets .before .before .before .before .before in
     let a = to-counts .before .before .before .before .before .args in
+    let counts = toLE 2 (a .p .count) ++ toLE 2 (a .p .buckets) in
+    let offsets = toLE 2 headerSize ++ toLE 2 (at .result) in
+    let times = toLE 4 (a .p .delay) ++ toLE 4 (a .p .horizon) in
     let one = to-counts .write-two .ensures in
     let two = to-offsets .write-two2 .ensures in
     let three = to-times .write-two3 .ensures in
-    let front = then 0 _ _ (a .bytes .now) _ _ 4 one two (omega arith) (simp (length-append, to-length)) in
-    rw (← at) (simp append-assoc at (then 0 _ _ (a .bytes .now) _ _ 8 front three (omega arith) (simp (length-append, to-length))))
+    let front = then 0 counts offsets (a .bytes .now) _ _ 4 one two (omega arith) (simp (length-append, to-length)) in
+    rw (← at .ensures) (simp append-assoc at (then 0 (counts ++ offsets) times (a .bytes .now) _ _ 8 front three (omega arith) (simp (length-append, to-length))))
 
 pub write-header-spec : {M : Type 1} → statement M
 write-header-spec =
