@@ -10,7 +10,8 @@ use Rattle.bucket_test.specs.Tests.{joinTo}
 use Rattle.bucket_test.specs.Plan.{countLimit, bucketLimit}
 use Rattle.bucket_test.proofs.PlaceLists.{join-cong}
 use Rattle.stored_plan.specs.Little.{toLE, field, column, Bytes}
-use Rattle.stored_plan.specs.Form.{headerSize, thresholdSize, bucketSize, bucketOffset, formSize, pair, header, thresholdEntries, bucketEntries, encoded}
+use Rattle.stored_plan.specs.Form.{headerSize, thresholdSize, bucketSize, bucketOffset, formSize}
+use Rattle.stored_plan.specs.Form.{pair, header, thresholdEntries, bucketEntries, encoded}
 use Rattle.stored_plan.specs.Reading.{filled, countIn, bucketsIn, planIn, readRefusal}
 use Rattle.stored_plan.proofs.LittleLaws.{to-field}
 use Rattle.stored_plan.proofs.FormLaws.{header-fits}
@@ -36,6 +37,10 @@ module _ (bytes : List ℕ) where
   parts-join at size zero = rw (mul-zero size)
   parts-join at size (suc n) = rw (parts-join at size n, mul-suc size n) (part-join at (size * n) size)
 
+  -- a table that is read
+  abbrev read : ℕ → ℕ → ℕ → ℕ → ℕ → List ℕ
+  read places count width at stride = filled count (column width at stride bytes) (replicate places 0)
+
   -- a field's number, as bytes
   module _ (each : Bytes bytes) where
     field-part : (width at : ℕ) → at + width ≤ length bytes → toLE width (field width at bytes) ≡ part at width
@@ -43,18 +48,17 @@ module _ (bytes : List ℕ) where
     field-part = to-field bytes each
 
     -- an entry of two numbers that were read one behind the other
-    pair-part : (places count at m n : ℕ) → count ≤ places → (i : ℕ) → i < count → at + (m + n) * i + (m + n) ≤ length bytes
-        → pair m n (filled count (column m at (m + n) bytes) (replicate places 0)) (filled count (column n (at + m) (m + n) bytes) (replicate places 0)) i
-        ≡ part (at + (m + n) * i) (m + n)
-    pair-part places count at m n k i l h =
+    pair-part : (places count at m n : ℕ) → count ≤ places → ((i : ℕ) → i < count → at + (m + n) * i + (m + n) ≤ length bytes)
+        → (i : ℕ) → i < count → pair m n (read places count m at (m + n)) (read places count n (at + m) (m + n)) i ≡ part (at + (m + n) * i) (m + n)
+    pair-part places count at m n k h i l =
         let entry = at + (m + n) * i in
         let second : at + m + (m + n) * i ≡ entry + m = omega arith in
         rw (
           filled-get places count (column m at (m + n) bytes) k i l,
           filled-get places count (column n (at + m) (m + n) bytes) k i l,
           second,
-          field-part m entry (omega arith),
-          field-part n (entry + m) (omega arith),
+          field-part m entry (omega (arith, h i l)),
+          field-part n (entry + m) (omega (arith, h i l)),
         ) (part-join entry m n)
 
     -- a plan's form, part by part
@@ -83,10 +87,12 @@ module _ (bytes : List ℕ) where
       form-whole =
           let kc = countIn bytes in
           let bc = bucketsIn bytes in
+          let entry-part = pair-part countLimit kc headerSize 4 8 k (λ i l. omega arith) in
+          let bucket-part = pair-part bucketLimit bc (bucketOffset kc) 4 4 b (λ j l. omega arith) in
           rw (
             header-part,
-            join-cong kc _ (λ i. part (headerSize + thresholdSize * i) thresholdSize) (λ i l. pair-part countLimit kc headerSize 4 8 k i l (omega arith)),
-            join-cong bc _ (λ j. part (bucketOffset kc + bucketSize * j) bucketSize) (λ j l. pair-part bucketLimit bc (bucketOffset kc) 4 4 b j l (omega arith)),
+            join-cong kc _ (λ i. part (headerSize + thresholdSize * i) thresholdSize) entry-part,
+            join-cong bc _ (λ j. part (bucketOffset kc + bucketSize * j) bucketSize) bucket-part,
             parts-join headerSize thresholdSize kc,
             parts-join (bucketOffset kc) bucketSize bc,
             part-join headerSize (thresholdSize * kc) (bucketSize * bc),

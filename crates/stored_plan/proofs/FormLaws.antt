@@ -12,7 +12,8 @@ use Rattle.bucket_test.specs.declared.Plan.{Plan}
 use Rattle.bucket_test.proofs.PlaceLists.{join-length}
 use Rattle.bucket_test.proofs.Rules.{Counted}
 use Rattle.stored_plan.specs.Little.{toLE, field, putAt}
-use Rattle.stored_plan.specs.Form.{headerSize, thresholdSize, bucketSize, bucketOffset, formSize, formLimit, pair, header, thresholdEntries, bucketEntries, encoded}
+use Rattle.stored_plan.specs.Form.{headerSize, thresholdSize, bucketSize, bucketOffset, formSize, formLimit}
+use Rattle.stored_plan.specs.Form.{pair, header, thresholdEntries, bucketEntries, encoded}
 use Rattle.stored_plan.proofs.LittleLaws.{to-length, field-left, field-right}
 use Rattle.stored_plan.proofs.Putting.{put-none, put-first, then}
 

@@ -11,7 +11,8 @@ use Rattle.bucket_test.proofs.Rules.{accepted, permitted-le}
 use Rattle.bucket_test.proofs.Ignored.{ignored}
 use Rattle.stored_plan.specs.Little.{toLE, field}
 use Rattle.stored_plan.specs.Form.{headerSize, countField, bucketsField, thresholdOffsetField, bucketOffsetField, delayField, horizonField}
-use Rattle.stored_plan.specs.Form.{thresholdSize, allowanceField, bucketSize, rightField, bucketOffset, pair, header, thresholdEntries, bucketEntries, encoded}
+use Rattle.stored_plan.specs.Form.{thresholdSize, allowanceField, bucketSize, rightField, bucketOffset}
+use Rattle.stored_plan.specs.Form.{pair, header, thresholdEntries, bucketEntries, encoded}
 use Rattle.stored_plan.specs.Reading.{filled, countIn, bucketsIn, planIn, readRefusal}
 use Rattle.stored_plan.specs.RoundTrip.{Same}
 use Rattle.stored_plan.proofs.LittleLaws.{field-right, field-next, field-here, field-last}

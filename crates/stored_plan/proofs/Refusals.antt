@@ -73,7 +73,8 @@ module _ (bytes : List ℕ) where
   form-says =
       let count = countIn bytes in
       let buckets = bucketsIn bytes in
-      let offsets = both (eq-reads (field 2 thresholdOffsetField bytes) headerSize) (eq-reads (field 2 bucketOffsetField bytes) (bucketOffset count)) in
+      let thresholds = eq-reads (field 2 thresholdOffsetField bytes) headerSize in
+      let offsets = both thresholds (eq-reads (field 2 bucketOffsetField bytes) (bucketOffset count)) in
       let sized = last-says (lengthFits bytes) 6 (eq-reads (length bytes) (formSize count buckets)) in
       let from-size = unless (lengthFits bytes) 7 ∷ [] in
       none-says (countsFit count buckets) 0 (unless (offsetsFit bytes) 7 ∷ from-size) (counts-say count buckets)

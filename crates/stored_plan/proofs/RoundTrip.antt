@@ -17,8 +17,8 @@ use Rattle.bucket_test.proofs.Ignored.{ignored}
 use Rattle.stored_plan.specs.Form.{countField, bucketsField, formSize, formLimit, header, thresholdEntries, bucketEntries, encoded}
 use Rattle.stored_plan.specs.Reading.{filled, countIn, bucketsIn, planIn, readRefusal, noPlan, decodedBy, decoded}
 use Rattle.stored_plan.specs.Writing.{writeRefusal, writtenBy, bytesBy, written, bytesAfter}
-use Rattle.stored_plan.specs.RoundTrip.{PlanBack, BytesBack, WrittenBack, ReadBack, FormLength, cutAt, CutReading, AcceptedForms, AcceptedWritings}
-use Rattle.stored_plan.specs.RoundTrip.{FormWritten, NoneOnRefusal, IgnoredInForm, Zeros}
+use Rattle.stored_plan.specs.RoundTrip.{PlanBack, BytesBack, WrittenBack, ReadBack, FormLength, cutAt, CutReading}
+use Rattle.stored_plan.specs.RoundTrip.{AcceptedForms, AcceptedWritings, FormWritten, NoneOnRefusal, IgnoredInForm, Zeros}
 use Rattle.stored_plan.proofs.LittleLaws.{field-cut}
 use Rattle.stored_plan.proofs.FormLaws.{longest, encoded-length}
 use Rattle.stored_plan.proofs.Refusals.{readable, overlong-form, overlong, decoded-none, decoded-some, writable, written-none, written-some}

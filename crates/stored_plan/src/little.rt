@@ -47,10 +47,10 @@ pub(crate) fn write_le(bytes: &mut [u8], at: usize, width: usize, v: u64)
 }
 
 // Two numbers, v of `first` bytes and w of `second` bytes behind it.
-pub(crate) fn write_two(bytes: &mut [u8], at: usize, first: usize, v: u64, second: usize, w: u64)
+pub(crate) fn write_two(bytes: &mut [u8], at: usize, first: usize, v: u32, second: usize, w: u64)
     requires { ⌜ at + first + second ≤ length (now bytes) ⌝ }
     ensures { λ _. ⌜ now (bytes .exit) ≡ putAt at (toLE first v ++ toLE second w) (now (bytes .entry)) ⌝ }
 {
-    write_le(bytes, at, first, v);
+    write_le(bytes, at, first, v as u64);
     write_le(bytes, at + first, second, w);
 }

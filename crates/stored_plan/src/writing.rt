@@ -27,16 +27,10 @@ fn write_header(bytes: &mut [u8], p: Plan)
     requires { ⌜ headerSize ≤ length (now bytes) ⌝ }
     ensures { λ _. ⌜ now (bytes .exit) ≡ putAt 0 (header p) (now (bytes .entry)) ⌝ }
 {
-    write_two(bytes, COUNT_FIELD, 2, p.count as u64, 2, p.buckets as u64);
-    write_two(
-        bytes,
-        THRESHOLD_OFFSET_FIELD,
-        2,
-        HEADER_SIZE as u64,
-        2,
-        bucket_offset(p.count) as u64,
-    );
-    write_two(bytes, DELAY_FIELD, 4, p.delay as u64, 4, p.horizon as u64);
+    write_two(bytes, COUNT_FIELD, 2, p.count, 2, p.buckets as u64);
+    let at = bucket_offset(p.count) as u64;
+    write_two(bytes, THRESHOLD_OFFSET_FIELD, 2, HEADER_SIZE as u32, 2, at);
+    write_two(bytes, DELAY_FIELD, 4, p.delay, 4, p.horizon as u64);
 }
 
 // An entry for each counted threshold, with its allowance.
@@ -46,14 +40,8 @@ fn write_thresholds(bytes: &mut [u8], p: Plan)
 {
     let k = p.count as usize;
     for i in 0..k {
-        write_two(
-            bytes,
-            HEADER_SIZE + THRESHOLD_SIZE * i,
-            4,
-            p.thresholds[i] as u64,
-            8,
-            p.allowances[i],
-        );
+        let at = HEADER_SIZE + THRESHOLD_SIZE * i;
+        write_two(bytes, at, 4, p.thresholds[i], 8, p.allowances[i]);
     }
 }
 
@@ -63,16 +51,10 @@ fn write_buckets(bytes: &mut [u8], p: Plan)
     ensures { λ _. ⌜ now (bytes .exit) ≡ putAt (bucketOffset (p .count)) (bucketEntries p) (now (bytes .entry)) ⌝ }
 {
     let b = p.buckets as usize;
-    let at = bucket_offset(p.count);
+    let start = bucket_offset(p.count);
     for j in 0..b {
-        write_two(
-            bytes,
-            at + BUCKET_SIZE * j,
-            4,
-            p.left[j] as u64,
-            4,
-            p.right[j] as u64,
-        );
+        let at = start + BUCKET_SIZE * j;
+        write_two(bytes, at, 4, p.left[j], 4, p.right[j] as u64);
     }
 }
 

@@ -19,23 +19,20 @@ cast-k c = search needs
 loop-holds : tie.Need-loop-holds Inv-loop μ-loop
 loop-holds c = let a = c .before .args in put-start 4 8 (a .t2 .thresholds) (a .t2 .allowances) headerSize (a .t2 .count) (a .bytes .now)
 
+mul-at : tie.Need-mul-at Inv-loop μ-loop
+mul-at c = search needs
+
+add-at : tie.Need-add-at Inv-loop μ-loop
+add-at c = search needs
+
 mul-write-two : tie.Need-mul-write-two Inv-loop μ-loop
 mul-write-two c = search needs
-
-add-write-two : tie.Need-add-write-two Inv-loop μ-loop
-add-write-two c = search needs
-
-mul-write-two-2 : tie.Need-mul-write-two-2 Inv-loop μ-loop
-mul-write-two-2 c = search needs
 
 element-copy-out-write-two : tie.Need-element-copy-out-write-two Inv-loop μ-loop
 element-copy-out-write-two c = search needs
 
-cast-write-two : tie.Need-cast-write-two Inv-loop μ-loop
-cast-write-two c = search needs
-
-mul-write-two-3 : tie.Need-mul-write-two-3 Inv-loop μ-loop
-mul-write-two-3 c = search needs
+mul-write-two-2 : tie.Need-mul-write-two-2 Inv-loop μ-loop
+mul-write-two-2 c = search needs
 
 element-copy-out-write-two-2 : tie.Need-element-copy-out-write-two-2 Inv-loop μ-loop
 element-copy-out-write-two-2 c = search needs
@@ -77,12 +74,11 @@ write-thresholds-spec =
     μ-loop
     cast-k
     loop-holds
+    mul-at
+    add-at
     mul-write-two
-    add-write-two
-    mul-write-two-2
     element-copy-out-write-two
-    cast-write-two
-    mul-write-two-3
+    mul-write-two-2
     element-copy-out-write-two-2
     write-two-requires
     add-i
