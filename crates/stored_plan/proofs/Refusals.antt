@@ -68,17 +68,20 @@ module _ (bytes : List ℕ) where
   abbrev pub Sized : Type 0
   Sized = length bytes ≡ formSize (countIn bytes) (bucketsIn bytes)
 
-  pub form-says : (formRefusal bytes ≡ 0) ↔ (Counts × (Offsets × Sized))
-  unfolding formRefusal offsetsFit lengthFits
+  offsets-say : (offsetsFit bytes ≡ true) ↔ Offsets
+  unfolding offsetsFit
+  offsets-say =
+      both (eq-reads (field 2 thresholdOffsetField bytes) headerSize) (eq-reads (field 2 bucketOffsetField bytes) (bucketOffset (countIn bytes)))
+
+  pub form-says : (formRefusal bytes ≡ 0) ↔ (Counts × ((offsetsFit bytes ≡ true) × Sized))
+  unfolding formRefusal lengthFits
   form-says =
       let count = countIn bytes in
       let buckets = bucketsIn bytes in
-      let thresholds = eq-reads (field 2 thresholdOffsetField bytes) headerSize in
-      let offsets = both thresholds (eq-reads (field 2 bucketOffsetField bytes) (bucketOffset count)) in
       let sized = last-says (lengthFits bytes) 6 (eq-reads (length bytes) (formSize count buckets)) in
       let from-size = unless (lengthFits bytes) 7 ∷ [] in
       none-says (countsFit count buckets) 0 (unless (offsetsFit bytes) 7 ∷ from-size) (counts-say count buckets)
-      (none-says (offsetsFit bytes) 6 from-size offsets sized)
+      (none-says (offsetsFit bytes) 6 from-size (λ e. e, λ e. e) sized)
 
   -- longer than the longest form: 1 where the counts do not fit, else 7, and no plan
   module _ (h : formLimit < length bytes) where
@@ -108,7 +111,7 @@ module _ (bytes : List ℕ) where
   abbrev plan : ℕ
   plan = planRefusal (planIn bytes)
 
-  read-says : (readRefusal bytes ≡ 0) ↔ ((headerSize ≤ length bytes) × ((Counts bytes × (Offsets bytes × Sized bytes)) × (plan ≡ 0)))
+  read-says : (readRefusal bytes ≡ 0) ↔ ((headerSize ≤ length bytes) × ((Counts bytes × ((offsetsFit bytes ≡ true) × Sized bytes)) × (plan ≡ 0)))
   unfolding readRefusal
   read-says =
       none-says (le? headerSize (length bytes)) 6 (formRefusal bytes ∷ plan ∷ []) (le-reads headerSize (length bytes))
@@ -119,11 +122,11 @@ module _ (bytes : List ℕ) where
     λ e. let h = read-says .0 e in record {
       long = h .0;
       counts = h .1 .0 .0;
-      offsets = h .1 .0 .1 .0;
+      offsets = offsets-say bytes .0 (h .1 .0 .1 .0);
       sized = h .1 .0 .1 .1;
       accepted = h .1 .1;
     },
-    λ h. read-says .1 (h .long, ((h .counts, (h .offsets, h .sized)), h .accepted)),
+    λ h. read-says .1 (h .long, ((h .counts, (offsets-say bytes .1 (h .offsets), h .sized)), h .accepted)),
   )
 
 -- ---- a writing

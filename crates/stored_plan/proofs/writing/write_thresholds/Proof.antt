@@ -2,7 +2,7 @@
 use Prim.Native.Nat.{_-_}
 use native.Mathlib.Omega.{arith}
 use borrow.Author.Needs.{needs}
-use Rattle.stored_plan.specs.Form.{headerSize, bucketOffset, formSize, thresholdEntries}
+use Rattle.stored_plan.specs.Form.{headerSize, bucketOffset, thresholdEntries}
 use Rattle.stored_plan.proofs.FormLaws.{PutTo, put-start, put-pair, put-all}
 use Rattle.stored_plan.proofs.writing.write_thresholds.Statement.{statement}
 use Rattle.stored_plan.proofs.writing.write_thresholds.Tie as tie
