@@ -1,11 +1,11 @@
 // Writing a plan into lent bytes (rules 2.3).
 ghost use mathlib.Core.Path.{_≡_};
 ghost use mathlib.Core.List.{List};
-ghost use Prim.Native.Nat.{ℕ, _≤_};
+ghost use Prim.Native.Nat.{ℕ, _+_, _≤_, _<_};
 ghost use lib.ListN.{length};
 ghost use Rattle.bucket_test.specs.Plan.{countLimit, bucketLimit};
 ghost use Rattle.stored_plan.specs.Little.{putAt};
-ghost use Rattle.stored_plan.specs.Form.{headerSize, bucketOffset, formSize, header, thresholdEntries, bucketEntries};
+ghost use Rattle.stored_plan.specs.Form.{headerSize, thresholdSize, bucketSize, bucketOffset, formSize, pair, header, thresholdEntries, bucketEntries};
 ghost use Rattle.stored_plan.specs.Writing.{writeRefusal, written, bytesAfter};
 use crate::HEADER_SIZE;
 use crate::Written;
@@ -33,6 +33,22 @@ fn write_header(bytes: &mut [u8], p: Plan)
     write_two(bytes, DELAY_FIELD, 4, p.delay, 4, p.horizon as u64);
 }
 
+// The entry of the threshold at place i.
+fn write_threshold(bytes: &mut [u8], at: usize, p: Plan, i: usize)
+    requires { ⌜ (i < countLimit) × (at + thresholdSize ≤ length (now bytes)) ⌝ }
+    ensures { λ _. ⌜ now (bytes .exit) ≡ putAt at (pair 4 8 (p .thresholds) (p .allowances) i) (now (bytes .entry)) ⌝ }
+{
+    write_two(bytes, at, 4, p.thresholds[i], 8, p.allowances[i]);
+}
+
+// The entry of the bucket at place j.
+fn write_bucket(bytes: &mut [u8], at: usize, p: Plan, j: usize)
+    requires { ⌜ (j < bucketLimit) × (at + bucketSize ≤ length (now bytes)) ⌝ }
+    ensures { λ _. ⌜ now (bytes .exit) ≡ putAt at (pair 4 4 (p .left) (p .right) j) (now (bytes .entry)) ⌝ }
+{
+    write_two(bytes, at, 4, p.left[j], 4, p.right[j] as u64);
+}
+
 // An entry for each counted threshold, with its allowance.
 fn write_thresholds(bytes: &mut [u8], p: Plan)
     requires { ⌜ (p .count ≤ countLimit) × (bucketOffset (p .count) ≤ length (now bytes)) ⌝ }
@@ -40,8 +56,7 @@ fn write_thresholds(bytes: &mut [u8], p: Plan)
 {
     let k = p.count as usize;
     for i in 0..k {
-        let at = HEADER_SIZE + THRESHOLD_SIZE * i;
-        write_two(bytes, at, 4, p.thresholds[i], 8, p.allowances[i]);
+        write_threshold(bytes, HEADER_SIZE + THRESHOLD_SIZE * i, p, i);
     }
 }
 
@@ -51,10 +66,9 @@ fn write_buckets(bytes: &mut [u8], p: Plan)
     ensures { λ _. ⌜ now (bytes .exit) ≡ putAt (bucketOffset (p .count)) (bucketEntries p) (now (bytes .entry)) ⌝ }
 {
     let b = p.buckets as usize;
-    let start = bucket_offset(p.count);
+    let at = bucket_offset(p.count);
     for j in 0..b {
-        let at = start + BUCKET_SIZE * j;
-        write_two(bytes, at, 4, p.left[j], 4, p.right[j] as u64);
+        write_bucket(bytes, at + BUCKET_SIZE * j, p, j);
     }
 }
 

@@ -17,29 +17,19 @@ cast-k : tie.Need-cast-k Inv-loop μ-loop
 cast-k c = search needs
 
 loop-holds : tie.Need-loop-holds Inv-loop μ-loop
-loop-holds c = let a = c .before .args in put-start 4 8 (a .t2 .thresholds) (a .t2 .allowances) headerSize (a .t2 .count) (a .bytes .now)
+loop-holds c =
+    let a = c .before .before .args in
+    put-start 4 8 (a .p .thresholds) (a .p .allowances) headerSize (a .p .count) (a .bytes .now)
 
-mul-at : tie.Need-mul-at Inv-loop μ-loop
-mul-at c = search needs
+mul-write-threshold : tie.Need-mul-write-threshold Inv-loop μ-loop
+mul-write-threshold c = search needs
 
-add-at : tie.Need-add-at Inv-loop μ-loop
-add-at c = search needs
+add-write-threshold : tie.Need-add-write-threshold Inv-loop μ-loop
+add-write-threshold c = search needs
 
-mul-write-two : tie.Need-mul-write-two Inv-loop μ-loop
-mul-write-two c = search needs
-
-element-copy-out-write-two : tie.Need-element-copy-out-write-two Inv-loop μ-loop
-element-copy-out-write-two c = search needs
-
-mul-write-two-2 : tie.Need-mul-write-two-2 Inv-loop μ-loop
-mul-write-two-2 c = search needs
-
-element-copy-out-write-two-2 : tie.Need-element-copy-out-write-two-2 Inv-loop μ-loop
-element-copy-out-write-two-2 c = search needs
-
-write-two-requires : tie.Need-write-two-requires Inv-loop μ-loop
+write-threshold-requires : tie.Need-write-threshold-requires Inv-loop μ-loop
 unfolding bucketOffset
-write-two-requires c κs = search needs
+write-threshold-requires c κs = search needs
 
 add-i : tie.Need-add-i Inv-loop μ-loop
 add-i c = search needs
@@ -50,11 +40,10 @@ loop-less c = search needs
 loop-again : tie.Need-loop-again Inv-loop μ-loop
 unfolding bucketOffset
 loop-again c =
-    let l = c .before .before .before .before .before .before .before .loop in
-    let a = c .before .before .before .before .before .before .before .before .before .args in
-    let write = c .before .before .write-two in
-    let next = put-pair 4 8 (a .t2 .thresholds) (a .t2 .allowances) headerSize (a .t2 .count) (a .bytes .now) (l .i) (l .bytes) _ (l .inv) in
-    next (c .before .before .before .before .before .before .loop-test .taken) (search needs) (write .ensures) (omega arith)
+    let l = c .before .before .before .before .before .loop in
+    let a = c .before .before .before .before .before .before .before .before .args in
+    let next = put-pair 4 8 (a .p .thresholds) (a .p .allowances) headerSize (a .p .count) (a .bytes .now) (l .i) (l .bytes) _ (l .inv) in
+    next (c .before .before .before .before .loop-test .taken) (search needs) (c .before .before .write-threshold .ensures) (omega arith)
 
 same-length : tie.Need-same-length Inv-loop μ-loop
 same-length c = search needs
@@ -63,8 +52,8 @@ returns : tie.Need-returns Inv-loop μ-loop
 unfolding thresholdEntries
 returns c =
     let l = c .before .loop in
-    let a = c .before .before .before .args in
-    put-all 4 8 (a .t2 .thresholds) (a .t2 .allowances) headerSize (a .t2 .count) (a .bytes .now) (l .i) (l .bytes) (l .inv) (omega arith)
+    let a = c .before .before .before .before .args in
+    put-all 4 8 (a .p .thresholds) (a .p .allowances) headerSize (a .p .count) (a .bytes .now) (l .i) (l .bytes) (l .inv) (omega arith)
 
 pub write-thresholds-spec : {M : Type 1} → statement M
 write-thresholds-spec =
@@ -74,13 +63,9 @@ write-thresholds-spec =
     μ-loop
     cast-k
     loop-holds
-    mul-at
-    add-at
-    mul-write-two
-    element-copy-out-write-two
-    mul-write-two-2
-    element-copy-out-write-two-2
-    write-two-requires
+    mul-write-threshold
+    add-write-threshold
+    write-threshold-requires
     add-i
     loop-less
     loop-again
