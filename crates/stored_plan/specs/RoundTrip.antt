@@ -35,12 +35,12 @@ PlanBack = (p : Plan) → planRefusal p ≡ 0 → (decoded (encoded p) .refusal 
 abbrev pub BytesBack : Type 0
 BytesBack = (bytes : List ℕ) → Bytes bytes → decoded bytes .refusal ≡ 0 → encoded (decoded bytes .plan) ≡ bytes
 
--- the same of what an entry hands back: what was written into lent bytes, any that it fits, is read as the plan
+-- both of what the entries hand back: what was written into lent bytes, any that the form fits, is read as the plan
 abbrev pub WrittenBack : Type 0
 WrittenBack = (p : Plan) (bytes : List ℕ) → written p bytes .refusal ≡ 0
     → let stored = take (written p bytes .size) (bytesAfter p bytes) in (decoded stored .refusal ≡ 0) × Same p (decoded stored .plan)
 
--- and accepted bytes, read, then written into lent bytes, any that are long enough, stand at their start, with the rest as it was
+-- accepted bytes, read, then written into lent bytes, any that are long enough, stand at their start, and the rest is as it was
 abbrev pub ReadBack : Type 0
 ReadBack = (bytes lent : List ℕ) → Bytes bytes → decoded bytes .refusal ≡ 0 → length bytes ≤ length lent
     → let p = decoded bytes .plan in
