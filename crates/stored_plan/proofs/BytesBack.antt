@@ -4,14 +4,15 @@ use mathlib.Core.List.{List, _++_}
 use Prim.Native.Nat.{ℕ, zero, suc, _+_, _*_, _≤_, _<_}
 use native.Mathlib.Nat.{mul-zero, mul-suc}
 use native.Mathlib.Omega.{arith}
-use lib.ListN.{length, take, drop}
+use lib.ListN.{length, take, drop, replicate}
 use lib.Seq.{drop-drop, take-add, take-all}
 use Rattle.plan.specs.Places.{joinTo}
-use Rattle.plan.specs.Plan.{thresholdAt, allowanceAt, leftAt, rightAt}
+use Rattle.plan.specs.Plan.{countLimit, bucketLimit}
 use Rattle.plan.proofs.PlaceLists.{join-cong}
 use Rattle.stored_plan.specs.Little.{toLE, field, column, Bytes}
-use Rattle.stored_plan.specs.Form.{headerSize, bucketOffset, formSize, header, thresholdEntries, bucketEntries, encoded}
-use Rattle.stored_plan.specs.Reading.{countIn, bucketsIn, planIn, readRefusal}
+use Rattle.stored_plan.specs.Form.{headerSize, thresholdSize, bucketSize, bucketOffset, formSize}
+use Rattle.stored_plan.specs.Form.{pair, header, thresholdEntries, bucketEntries, encoded}
+use Rattle.stored_plan.specs.Reading.{filled, countIn, bucketsIn, planIn, readRefusal}
 use Rattle.stored_plan.proofs.LittleLaws.{to-field}
 use Rattle.stored_plan.proofs.FormLaws.{header-fits}
 use Rattle.stored_plan.proofs.ReadingLaws.{filled-get}
@@ -36,14 +37,32 @@ module _ (bytes : List ℕ) where
   parts-join at size zero = rw (mul-zero size)
   parts-join at size (suc n) = rw (parts-join at size n, mul-suc size n) (part-join at (size * n) size)
 
+  -- a table that is read
+  abbrev read : ℕ → ℕ → ℕ → ℕ → ℕ → List ℕ
+  read places count width at stride = filled count (column width at stride bytes) (replicate places 0)
+
   -- a field's number, as bytes
   module _ (each : Bytes bytes) where
     field-part : (width at : ℕ) → at + width ≤ length bytes → toLE width (field width at bytes) ≡ part at width
     unfolding part
     field-part = to-field bytes each
 
+    -- an entry of two numbers that were read one behind the other
+    pair-part : (places count at m n : ℕ) → count ≤ places → ((i : ℕ) → i < count → at + (m + n) * i + (m + n) ≤ length bytes)
+        → (i : ℕ) → i < count → pair m n (read places count m at (m + n)) (read places count n (at + m) (m + n)) i ≡ part (at + (m + n) * i) (m + n)
+    pair-part places count at m n k h i l =
+        let entry = at + (m + n) * i in
+        let second : at + m + (m + n) * i ≡ entry + m = omega arith in
+        rw (
+          filled-get places count (column m at (m + n) bytes) k i l,
+          filled-get places count (column n (at + m) (m + n) bytes) k i l,
+          second,
+          field-part m entry (omega (arith, h i l)),
+          field-part n (entry + m) (omega (arith, h i l)),
+        ) (part-join entry m n)
+
     -- a plan's form, part by part
-    module _ (k : countIn bytes ≤ 10) (b : bucketsIn bytes ≤ 16) (o : Offsets bytes) (z : Sized bytes) where
+    module _ (k : countIn bytes ≤ countLimit) (b : bucketsIn bytes ≤ bucketLimit) (o : Offsets bytes) (z : Sized bytes) where
       header-part : header (planIn bytes) ≡ part 0 headerSize
       unfolding header planIn countIn bucketsIn
       header-part =
@@ -63,47 +82,22 @@ module _ (bytes : List ℕ) where
             part-join 2 2 12,
           ) (part-join 0 2 14)
 
-      entry-part : (i : ℕ) → i < countIn bytes
-          → toLE 4 (thresholdAt (planIn bytes) i) ++ toLE 8 (allowanceAt (planIn bytes) i) ≡ part (headerSize + 12 * i) 12
-      unfolding planIn formSize bucketOffset
-      entry-part i l =
-          let second : headerSize + 4 + 12 * i ≡ headerSize + 12 * i + 4 = omega arith in
-          rw (
-            filled-get 10 (countIn bytes) (column 4 headerSize 12 bytes) k i l,
-            filled-get 10 (countIn bytes) (column 8 (headerSize + 4) 12 bytes) k i l,
-            second,
-            field-part 4 (headerSize + 12 * i) (omega arith),
-            field-part 8 (headerSize + 12 * i + 4) (omega arith),
-          ) (part-join (headerSize + 12 * i) 4 8)
-
-      ends-part : (j : ℕ) → j < bucketsIn bytes
-          → toLE 4 (leftAt (planIn bytes) j) ++ toLE 4 (rightAt (planIn bytes) j) ≡ part (bucketOffset (countIn bytes) + 8 * j) 8
-      unfolding planIn formSize
-      ends-part j l =
-          let at = bucketOffset (countIn bytes) in
-          let second : at + 4 + 8 * j ≡ at + 8 * j + 4 = omega arith in
-          rw (
-            filled-get 16 (bucketsIn bytes) (column 4 at 8 bytes) b j l,
-            filled-get 16 (bucketsIn bytes) (column 4 (at + 4) 8 bytes) b j l,
-            second,
-            field-part 4 (at + 8 * j) (omega arith),
-            field-part 4 (at + 8 * j + 4) (omega arith),
-          ) (part-join (at + 8 * j) 4 4)
-
       form-whole : encoded (planIn bytes) ≡ bytes
       unfolding encoded thresholdEntries bucketEntries formSize bucketOffset planIn
       form-whole =
           let kc = countIn bytes in
           let bc = bucketsIn bytes in
+          let entry-part = pair-part countLimit kc headerSize 4 8 k (λ i l. omega arith) in
+          let bucket-part = pair-part bucketLimit bc (bucketOffset kc) 4 4 b (λ j l. omega arith) in
           rw (
             header-part,
-            join-cong kc _ (λ i. part (headerSize + 12 * i) 12) entry-part,
-            join-cong bc _ (λ j. part (bucketOffset kc + 8 * j) 8) ends-part,
-            parts-join headerSize 12 kc,
-            parts-join (bucketOffset kc) 8 bc,
-            part-join headerSize (12 * kc) (8 * bc),
-            part-join 0 headerSize (12 * kc + 8 * bc),
-          ) (part-all (headerSize + (12 * kc + 8 * bc)) (omega arith))
+            join-cong kc _ (λ i. part (headerSize + thresholdSize * i) thresholdSize) entry-part,
+            join-cong bc _ (λ j. part (bucketOffset kc + bucketSize * j) bucketSize) bucket-part,
+            parts-join headerSize thresholdSize kc,
+            parts-join (bucketOffset kc) bucketSize bc,
+            part-join headerSize (thresholdSize * kc) (bucketSize * bc),
+            part-join 0 headerSize (thresholdSize * kc + bucketSize * bc),
+          ) (part-all (headerSize + (thresholdSize * kc + bucketSize * bc)) (omega arith))
 
     pub bytes-back : readRefusal bytes ≡ 0 → encoded (planIn bytes) ≡ bytes
     bytes-back e = let s = readable bytes .0 e in form-whole (s .counts .0 .1) (s .counts .1 .1) (s .offsets) (s .sized)

@@ -1,5 +1,5 @@
 -- Lengths of the parts of a stored form, and entries written one behind the other (specs/Form).
-use mathlib.Core.Path.{_≡_, ap, _∙_}
+use mathlib.Core.Path.{_≡_, refl, sym, ap, _∙_}
 use mathlib.Core.List.{List, _++_, append-assoc}
 use mathlib.Core.Logic.{⊎-elim}
 use Prim.Native.Nat.{ℕ, zero, suc, _+_, _*_, _≤_, _<_}
@@ -12,9 +12,10 @@ use Rattle.plan.specs.declared.Plan.{Plan}
 use Rattle.plan.proofs.PlaceLists.{join-length}
 use Rattle.plan.proofs.AcceptedLaws.{Counted}
 use Rattle.stored_plan.specs.Little.{toLE, field, putAt}
-use Rattle.stored_plan.specs.Form.{pair, headerSize, bucketOffset, formSize, header, thresholdEntries, bucketEntries, encoded}
+use Rattle.stored_plan.specs.Form.{headerSize, thresholdSize, bucketSize, bucketOffset, formSize, formLimit}
+use Rattle.stored_plan.specs.Form.{pair, header, thresholdEntries, bucketEntries, encoded}
 use Rattle.stored_plan.proofs.LittleLaws.{to-length, field-left, field-right}
-use Rattle.stored_plan.proofs.Putting.{put-first, then}
+use Rattle.stored_plan.proofs.Putting.{put-none, put-first, then}
 
 module _ (g : ℕ → List ℕ) (size : ℕ) (each : (i : ℕ) → length (g i) ≡ size) where
   join-size : (n : ℕ) → length (joinTo n g) ≡ size * n
@@ -46,17 +47,29 @@ module _ (m n : ℕ) (xs ys : List ℕ) where
   pub pair-length : (i : ℕ) → length (pair m n xs ys i) ≡ m + n
   pair-length i = rw (length-append (toLE m (getD xs i 0)) (toLE n (getD ys i 0)), to-length m (getD xs i 0), to-length n (getD ys i 0))
 
-  pub put-pair : (at i : ℕ) (bytes bytes′ bytes″ : List ℕ) → bytes′ ≡ putAt at (joinTo i (pair m n xs ys)) bytes
-      → bytes″ ≡ putAt (at + (m + n) * i) (pair m n xs ys i) bytes′ → at ≤ length bytes
-      → bytes″ ≡ putAt at (joinTo (i + 1) (pair m n xs ys)) bytes
-  put-pair = put-next (pair m n xs ys) (m + n) pair-length
+  -- what a loop has put when it comes to place i, of `count` entries to put from an offset on
+  module _ (at count : ℕ) (bytes₀ : List ℕ) where
+    abbrev pub PutTo : ℕ → List ℕ → Type 0
+    PutTo i bytes = (i ≤ count) × (length bytes ≡ length bytes₀) × (bytes ≡ putAt at (joinTo i (pair m n xs ys)) bytes₀)
+
+    pub put-start : PutTo 0 bytes₀
+    unfolding joinTo
+    put-start = (omega arith, refl, sym (put-none at bytes₀))
+
+    pub put-pair : (i : ℕ) (bytes bytes′ : List ℕ) → PutTo i bytes → i < count → length bytes′ ≡ length bytes
+        → bytes′ ≡ putAt (at + (m + n) * i) (pair m n xs ys i) bytes → at ≤ length bytes₀ → PutTo (i + 1) bytes′
+    put-pair i bytes bytes′ h l same e long =
+        (omega arith, same ∙ h .1, put-next (pair m n xs ys) (m + n) pair-length at i bytes₀ bytes bytes′ (h .2) e long)
+
+    pub put-all : (i : ℕ) (bytes : List ℕ) → PutTo i bytes → count ≤ i → bytes ≡ putAt at (joinTo count (pair m n xs ys)) bytes₀
+    put-all i bytes h l = let same : i ≡ count = omega arith in rw (← same) (h .2)
 
 pub header-fits : (count buckets : ℕ) → headerSize ≤ formSize count buckets
 unfolding formSize bucketOffset
 header-fits count buckets = omega arith
 
 -- the longest form is that of the most thresholds and buckets
-pub longest : (count buckets : ℕ) → Counted count buckets → formSize count buckets ≤ 264
+pub longest : (count buckets : ℕ) → Counted count buckets → formSize count buckets ≤ formLimit
 unfolding formSize bucketOffset
 longest count buckets h = omega arith
 
@@ -65,18 +78,18 @@ module _ (p : Plan) where
   unfolding header
   header-length = simp (length-append, to-length)
 
-  pub thresholds-length : length (thresholdEntries p) ≡ 12 * p .count
+  pub thresholds-length : length (thresholdEntries p) ≡ thresholdSize * p .count
   unfolding thresholdEntries
-  thresholds-length = join-size _ 12 (pair-length 4 8 (p .thresholds) (p .allowances)) (p .count)
+  thresholds-length = join-size _ thresholdSize (pair-length 4 8 (p .thresholds) (p .allowances)) (p .count)
 
   -- the parts before the buckets
   pub front-length : length (header p ++ thresholdEntries p) ≡ bucketOffset (p .count)
   unfolding bucketOffset
   front-length = omega (arith, length-append (header p) (thresholdEntries p), header-length, thresholds-length)
 
-  buckets-length : length (bucketEntries p) ≡ 8 * p .buckets
+  buckets-length : length (bucketEntries p) ≡ bucketSize * p .buckets
   unfolding bucketEntries
-  buckets-length = join-size _ 8 (pair-length 4 4 (p .left) (p .right)) (p .buckets)
+  buckets-length = join-size _ bucketSize (pair-length 4 4 (p .left) (p .right)) (p .buckets)
 
   pub encoded-length : length (encoded p) ≡ formSize (p .count) (p .buckets)
   unfolding encoded formSize bucketOffset

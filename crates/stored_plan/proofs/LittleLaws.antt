@@ -3,7 +3,8 @@ use mathlib.Core.Path.{_≡_, refl, sym, ap, ap₂, _∙_}
 use mathlib.Core.List.{List, [], _∷_, _++_, append-nil}
 use mathlib.Core.Logic.{⊎-elim}
 use Prim.Native.Nat.{ℕ, zero, suc, _+_, _*_, _/_, _%_, _<_, _≤_, _^_}
-use native.Mathlib.Nat.{mod-add-div, mod-eq-of-lt, div-lt-iff-lt-mul, add-mul-div-left, div-eq-of-lt, add-mul-mod-self-left, pow-suc, pow-le-pow-right}
+use native.Mathlib.Nat.{mod-add-div, mod-eq-of-lt, div-lt-iff-lt-mul, add-mul-div-left, div-eq-of-lt, add-mul-mod-self-left}
+use native.Mathlib.Nat.{pow-suc, pow-le-pow-right}
 use native.Mathlib.Omega.{arith}
 use lib.ListN.{length, take, drop, getD, length-take, length-drop, take-append-drop, List·getD-eq-default}
 use lib.Seq.{drop-cons, getD-take, getD-drop, length-take-le, take-append-le, drop-append-le, drop-append-add, take-at}

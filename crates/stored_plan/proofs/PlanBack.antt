@@ -5,12 +5,14 @@ use Prim.Native.Nat.{ℕ, _+_, _*_, _≤_, _<_}
 use native.Mathlib.Omega.{arith}
 use lib.ListN.{replicate}
 use Rattle.walk.specs.Units.{million, allowanceLimit, horizonLimit}
-use Rattle.plan.specs.Plan.{thresholdAt, allowanceAt, leftAt, rightAt, Accepted}
+use Rattle.plan.specs.Plan.{countLimit, bucketLimit, thresholdAt, allowanceAt, leftAt, rightAt, Accepted}
 use Rattle.plan.specs.declared.Plan.{Plan}
 use Rattle.plan.proofs.AcceptedLaws.{accepted, permitted-le}
 use Rattle.plan.proofs.SameCountedLaws.{same-rules}
 use Rattle.stored_plan.specs.Little.{toLE, field}
-use Rattle.stored_plan.specs.Form.{pair, headerSize, bucketOffset, header, thresholdEntries, bucketEntries, encoded}
+use Rattle.stored_plan.specs.Form.{headerSize, countField, bucketsField, thresholdOffsetField, bucketOffsetField, delayField, horizonField}
+use Rattle.stored_plan.specs.Form.{thresholdSize, allowanceField, bucketSize, rightField, bucketOffset}
+use Rattle.stored_plan.specs.Form.{pair, header, thresholdEntries, bucketEntries, encoded}
 use Rattle.stored_plan.specs.Reading.{filled, countIn, bucketsIn, planIn, readRefusal}
 use Rattle.stored_plan.specs.RoundTrip.{Same}
 use Rattle.stored_plan.proofs.LittleLaws.{field-right, field-next, field-here, field-last}
@@ -25,30 +27,30 @@ counted p = record {
   buckets = p .buckets;
   delay = p .delay;
   horizon = p .horizon;
-  thresholds = filled (p .count) (thresholdAt p) (replicate 10 0);
-  allowances = filled (p .count) (allowanceAt p) (replicate 10 0);
-  left = filled (p .buckets) (leftAt p) (replicate 16 0);
-  right = filled (p .buckets) (rightAt p) (replicate 16 0);
+  thresholds = filled (p .count) (thresholdAt p) (replicate countLimit 0);
+  allowances = filled (p .count) (allowanceAt p) (replicate countLimit 0);
+  left = filled (p .buckets) (leftAt p) (replicate bucketLimit 0);
+  right = filled (p .buckets) (rightAt p) (replicate bucketLimit 0);
 }
 
 -- ---- it is the same plan
 
-pub same : (p : Plan) → p .count ≤ 10 → p .buckets ≤ 16 → Same p (counted p)
+pub same : (p : Plan) → p .count ≤ countLimit → p .buckets ≤ bucketLimit → Same p (counted p)
 unfolding counted
 same p k b = record {
   counted-same = record {
     counts = (refl, refl);
     times = (refl, refl);
-    entries = λ i l. (filled-get 10 (p .count) (thresholdAt p) k i l, filled-get 10 (p .count) (allowanceAt p) k i l);
-    ends = λ j l. (filled-get 16 (p .buckets) (leftAt p) b j l, filled-get 16 (p .buckets) (rightAt p) b j l);
+    entries = λ i l. (filled-get countLimit (p .count) (thresholdAt p) k i l, filled-get countLimit (p .count) (allowanceAt p) k i l);
+    ends = λ j l. (filled-get bucketLimit (p .buckets) (leftAt p) b j l, filled-get bucketLimit (p .buckets) (rightAt p) b j l);
   };
-  entries-past = λ i l. (filled-past 10 (p .count) (thresholdAt p) i l, filled-past 10 (p .count) (allowanceAt p) i l);
-  ends-past = λ j l. (filled-past 16 (p .buckets) (leftAt p) j l, filled-past 16 (p .buckets) (rightAt p) j l);
+  entries-past = λ i l. (filled-past countLimit (p .count) (thresholdAt p) i l, filled-past countLimit (p .count) (allowanceAt p) i l);
+  ends-past = λ j l. (filled-past bucketLimit (p .buckets) (leftAt p) j l, filled-past bucketLimit (p .buckets) (rightAt p) j l);
   places = (
-    filled-length 10 (p .count) (thresholdAt p),
-    filled-length 10 (p .count) (allowanceAt p),
-    filled-length 16 (p .buckets) (leftAt p),
-    filled-length 16 (p .buckets) (rightAt p),
+    filled-length countLimit (p .count) (thresholdAt p),
+    filled-length countLimit (p .count) (allowanceAt p),
+    filled-length bucketLimit (p .buckets) (leftAt p),
+    filled-length bucketLimit (p .buckets) (rightAt p),
   );
 }
 
@@ -62,29 +64,29 @@ module _ (p : Plan) (a : Accepted p) where
   unfolding encoded header
   unrolled = simp append-assoc
 
-  in-count : field 2 0 (encoded p) ≡ p .count
+  in-count : field 2 countField (encoded p) ≡ p .count
   in-count = rw unrolled (field-here 2 (p .count) _ (omega (arith, a .count-range .1)))
 
-  in-buckets : field 2 2 (encoded p) ≡ p .buckets
+  in-buckets : field 2 bucketsField (encoded p) ≡ p .buckets
   in-buckets = rw unrolled (field-next 2 0 2 (p .count) _ ∙ field-here 2 (p .buckets) _ (omega (arith, a .buckets-range .1)))
 
-  in-first : field 2 4 (encoded p) ≡ headerSize
+  in-first : field 2 thresholdOffsetField (encoded p) ≡ headerSize
   in-first = rw unrolled (field-next 2 2 2 (p .count) _ ∙ field-next 2 0 2 (p .buckets) _ ∙ field-here 2 headerSize _ (omega arith))
 
-  in-second : field 2 6 (encoded p) ≡ bucketOffset (p .count)
+  in-second : field 2 bucketOffsetField (encoded p) ≡ bucketOffset (p .count)
   unfolding bucketOffset
   in-second =
       rw unrolled
       (field-next 2 4 2 (p .count) _ ∙ field-next 2 2 2 (p .buckets) _ ∙ field-next 2 0 2 headerSize _
       ∙ field-here 2 (bucketOffset (p .count)) _ (omega (arith, a .count-range .1)))
 
-  in-delay : field 4 8 (encoded p) ≡ p .delay
+  in-delay : field 4 delayField (encoded p) ≡ p .delay
   in-delay =
       rw unrolled
       (field-next 4 6 2 (p .count) _ ∙ field-next 4 4 2 (p .buckets) _ ∙ field-next 4 2 2 headerSize _
       ∙ field-next 4 0 2 (bucketOffset (p .count)) _ ∙ field-here 4 (p .delay) _ (omega (arith, a .delay-range .1)))
 
-  in-horizon : field 4 12 (encoded p) ≡ p .horizon
+  in-horizon : field 4 horizonField (encoded p) ≡ p .horizon
   unfolding horizonLimit
   in-horizon =
       rw unrolled
@@ -93,44 +95,44 @@ module _ (p : Plan) (a : Accepted p) where
       ∙ field-here 4 (p .horizon) _ (omega (arith, a .horizon-range .1)))
 
   -- a field of entry i, of bucket j
-  in-entry : (i width o at : ℕ) → i < p .count → o + width ≤ 12 → at ≡ headerSize + (12 * i + o)
+  in-entry : (i width o at : ℕ) → i < p .count → o + width ≤ thresholdSize → at ≡ headerSize + (thresholdSize * i + o)
       → field width at (encoded p) ≡ field width o (pair 4 8 (p .thresholds) (p .allowances) i)
   unfolding encoded thresholdEntries
   in-entry i width o at l h e =
       rw e
-      (field-right width (12 * i + o) (header p) (thresholdEntries p ++ bucketEntries p) headerSize (header-length p)
-      ∙ join-field _ 12 (pair-length 4 8 (p .thresholds) (p .allowances)) (p .count) (bucketEntries p) i width o l h)
+      (field-right width (thresholdSize * i + o) (header p) (thresholdEntries p ++ bucketEntries p) headerSize (header-length p)
+      ∙ join-field _ thresholdSize (pair-length 4 8 (p .thresholds) (p .allowances)) (p .count) (bucketEntries p) i width o l h)
 
-  in-ends : (j width o at : ℕ) → j < p .buckets → o + width ≤ 8 → at ≡ bucketOffset (p .count) + (8 * j + o)
+  in-ends : (j width o at : ℕ) → j < p .buckets → o + width ≤ bucketSize → at ≡ bucketOffset (p .count) + (bucketSize * j + o)
       → field width at (encoded p) ≡ field width o (pair 4 4 (p .left) (p .right) j)
   unfolding encoded bucketEntries
   in-ends j width o at l h e =
       rw (e, ← append-assoc (header p) (thresholdEntries p) (bucketEntries p))
-      (field-right width (8 * j + o) (header p ++ thresholdEntries p) (bucketEntries p) (bucketOffset (p .count)) (front-length p)
-      ∙ rw append-nil at (join-field (pair 4 4 (p .left) (p .right)) 8 (pair-length 4 4 (p .left) (p .right)) (p .buckets) [] j width o l h))
+      (field-right width (bucketSize * j + o) (header p ++ thresholdEntries p) (bucketEntries p) (bucketOffset (p .count)) (front-length p)
+      ∙ rw append-nil at (join-field (pair 4 4 (p .left) (p .right)) bucketSize (pair-length 4 4 (p .left) (p .right)) (p .buckets) [] j width o l h))
 
-  in-threshold : (i : ℕ) → i < p .count → field 4 (headerSize + 12 * i) (encoded p) ≡ thresholdAt p i
+  in-threshold : (i : ℕ) → i < p .count → field 4 (headerSize + thresholdSize * i) (encoded p) ≡ thresholdAt p i
   in-threshold i l =
-      in-entry i 4 0 (headerSize + 12 * i) l (omega arith) (omega arith)
+      in-entry i 4 0 (headerSize + thresholdSize * i) l (omega arith) (omega arith)
       ∙ field-here 4 (thresholdAt p i) (toLE 8 (allowanceAt p i)) (omega (arith, a .threshold-range i l .1))
 
-  in-allowance : (i : ℕ) → i < p .count → field 8 (headerSize + 4 + 12 * i) (encoded p) ≡ allowanceAt p i
+  in-allowance : (i : ℕ) → i < p .count → field 8 (headerSize + allowanceField + thresholdSize * i) (encoded p) ≡ allowanceAt p i
   unfolding allowanceLimit
   in-allowance i l =
-      in-entry i 8 4 (headerSize + 4 + 12 * i) l (omega arith) (omega arith)
+      in-entry i 8 allowanceField (headerSize + allowanceField + thresholdSize * i) l (omega arith) (omega arith)
       ∙ field-next 8 0 4 (thresholdAt p i) (toLE 8 (allowanceAt p i))
       ∙ field-last 8 (allowanceAt p i) (omega (arith, a .allowance-range i l .1))
 
-  in-left : (j : ℕ) → j < p .buckets → field 4 (bucketOffset (p .count) + 8 * j) (encoded p) ≡ leftAt p j
+  in-left : (j : ℕ) → j < p .buckets → field 4 (bucketOffset (p .count) + bucketSize * j) (encoded p) ≡ leftAt p j
   unfolding million
   in-left j l =
-      in-ends j 4 0 (bucketOffset (p .count) + 8 * j) l (omega arith) (omega arith)
+      in-ends j 4 0 (bucketOffset (p .count) + bucketSize * j) l (omega arith) (omega arith)
       ∙ field-here 4 (leftAt p j) (toLE 4 (rightAt p j)) (omega (arith, permitted-le p a (leftAt p j) (a .ends-permitted j l .0)))
 
-  in-right : (j : ℕ) → j < p .buckets → field 4 (bucketOffset (p .count) + 4 + 8 * j) (encoded p) ≡ rightAt p j
+  in-right : (j : ℕ) → j < p .buckets → field 4 (bucketOffset (p .count) + rightField + bucketSize * j) (encoded p) ≡ rightAt p j
   unfolding million
   in-right j l =
-      in-ends j 4 4 (bucketOffset (p .count) + 4 + 8 * j) l (omega arith) (omega arith)
+      in-ends j 4 rightField (bucketOffset (p .count) + rightField + bucketSize * j) l (omega arith) (omega arith)
       ∙ field-next 4 0 4 (leftAt p j) (toLE 4 (rightAt p j))
       ∙ field-last 4 (rightAt p j) (omega (arith, permitted-le p a (rightAt p j) (a .ends-permitted j l .1)))
 
@@ -144,10 +146,10 @@ module _ (p : Plan) (a : Accepted p) where
         in-buckets,
         in-delay,
         in-horizon,
-        filled-cong (p .count) _ (thresholdAt p) (replicate 10 0) in-threshold,
-        filled-cong (p .count) _ (allowanceAt p) (replicate 10 0) in-allowance,
-        filled-cong (p .buckets) _ (leftAt p) (replicate 16 0) in-left,
-        filled-cong (p .buckets) _ (rightAt p) (replicate 16 0) in-right,
+        filled-cong (p .count) _ (thresholdAt p) (replicate countLimit 0) in-threshold,
+        filled-cong (p .count) _ (allowanceAt p) (replicate countLimit 0) in-allowance,
+        filled-cong (p .buckets) _ (leftAt p) (replicate bucketLimit 0) in-left,
+        filled-cong (p .buckets) _ (rightAt p) (replicate bucketLimit 0) in-right,
       )
 
   pub form-read : readRefusal (encoded p) ≡ 0

@@ -4,15 +4,26 @@ use mathlib.Core.List.{List}
 use Prim.Native.Nat.{ℕ, zero, suc, _+_, _≤_, _<_}
 use native.Mathlib.Numerals.{add-one}
 use native.Mathlib.Omega.{arith}
-use lib.ListN.{length, replicate, set, getD, length-replicate}
+use lib.ListN.{length, replicate, set, getD, length-replicate, length-set}
 use Rattle.plan.specs.Places.{overTo}
 use Rattle.plan.proofs.PlaceLists.{over-length, over-get, over-cong, over-put}
 use Rattle.stored_plan.specs.Reading.{filled}
 
-pub fill-next : (i : ℕ) (f : ℕ → ℕ) (table₀ table : List ℕ) → table ≡ filled i f table₀ → (v : ℕ) → v ≡ f i
-    → set table i v ≡ filled (i + 1) f table₀
-unfolding filled
-fill-next i f table₀ table e v g = rw (e, g, add-one i) (over-put i (λ k _. f k) table₀ 0)
+-- what a loop has filled when it comes to place i, of `count` places to fill
+module _ (count : ℕ) (f : ℕ → ℕ) (table₀ : List ℕ) where
+  abbrev pub FilledTo : ℕ → List ℕ → Type 0
+  FilledTo i table = (i ≤ count) × (length table ≡ length table₀) × (table ≡ filled i f table₀)
+
+  pub fill-none : FilledTo 0 table₀
+  unfolding filled overTo
+  fill-none = (omega arith, refl, refl)
+
+  pub fill-next : (i : ℕ) (table : List ℕ) → FilledTo i table → i < count → (v : ℕ) → v ≡ f i → FilledTo (i + 1) (set table i v)
+  unfolding filled
+  fill-next i table h l v e = (omega arith, length-set table i v ∙ h .1, rw (h .2, e, add-one i) (over-put i (λ k _. f k) table₀ 0))
+
+  pub fill-all : (i : ℕ) (table : List ℕ) → FilledTo i table → count ≤ i → table ≡ filled count f table₀
+  fill-all i table h l = let n : i ≡ count = omega arith in rw (← n) (h .2)
 
 -- only the counted places matter
 pub filled-cong : (count : ℕ) (f g : ℕ → ℕ) (table : List ℕ) → ((i : ℕ) → i < count → f i ≡ g i) → filled count f table ≡ filled count g table

@@ -1,5 +1,5 @@
 -- What is handed back, by the refusals of a reading and of a writing in their order (specs/Reading, specs/Writing).
-use mathlib.Core.Path.{_≡_, refl, sym, _∙_}
+use mathlib.Core.Path.{_≡_, refl, sym, ap₂, _∙_}
 use mathlib.Core.Bool.{Bool, true, false}
 use mathlib.Core.List.{List, [], _∷_, _++_}
 use mathlib.Core.Logic.{_↔_}
@@ -14,10 +14,22 @@ use Rattle.plan.specs.declared.Plan.{Plan}
 use Rattle.plan.proofs.PlaceLaws.{both, le-reads, eq?-fails, eq-reads, first-some, first-one, same-number, none-both, none-says, last-says}
 use Rattle.plan.proofs.AcceptedLaws.{Counted, counts-say}
 use Rattle.stored_plan.specs.Little.{field}
-use Rattle.stored_plan.specs.Form.{headerSize, bucketOffset, formSize, encoded}
+use Rattle.stored_plan.specs.Form.{headerSize, thresholdOffsetField, bucketOffsetField, bucketOffset, formSize, formLimit, encoded}
 use Rattle.stored_plan.specs.Reading.{countIn, bucketsIn, planIn, offsetsFit, lengthFits, formRefusal, readRefusal, noPlan, decoded}
 use Rattle.stored_plan.specs.Writing.{writeRefusal, written, bytesAfter}
 use Rattle.stored_plan.proofs.FormLaws.{longest}
+
+-- the first of two as code says it, by what each of them is; and of three, as the first of two, of which the second is again
+pub first-two : {r a b a′ b′ : ℕ} → r ≡ firstRefusal (a ∷ b ∷ []) → a ≡ a′ → b ≡ b′ → r ≡ firstRefusal (a′ ∷ b′ ∷ [])
+first-two e f g = e ∙ ap₂ (λ (x y : ℕ). firstRefusal (x ∷ y ∷ [])) f g
+
+pub first-three : {r s a b c a′ b′ c′ : ℕ} → r ≡ firstRefusal (a ∷ s ∷ []) → s ≡ firstRefusal (b ∷ c ∷ []) → a ≡ a′ → b ≡ b′ → c ≡ c′
+    → r ≡ firstRefusal (a′ ∷ b′ ∷ c′ ∷ [])
+first-three {a′ = a′} {b′ = b′} {c′ = c′} e d f g h = first-two e f (first-two d g h) ∙ nested a′
+  where
+    nested : (x : ℕ) → firstRefusal (x ∷ firstRefusal (b′ ∷ c′ ∷ []) ∷ []) ≡ firstRefusal (x ∷ b′ ∷ c′ ∷ [])
+    nested zero = first-one (firstRefusal (b′ ∷ c′ ∷ []))
+    nested (suc x) = refl
 
 -- ---- a reading
 
@@ -51,24 +63,28 @@ module _ (bytes : List ℕ) where
   Counts = Counted (countIn bytes) (bucketsIn bytes)
 
   abbrev pub Offsets : Type 0
-  Offsets = (field 2 4 bytes ≡ headerSize) × (field 2 6 bytes ≡ bucketOffset (countIn bytes))
+  Offsets = (field 2 thresholdOffsetField bytes ≡ headerSize) × (field 2 bucketOffsetField bytes ≡ bucketOffset (countIn bytes))
 
   abbrev pub Sized : Type 0
   Sized = length bytes ≡ formSize (countIn bytes) (bucketsIn bytes)
 
-  pub form-says : (formRefusal bytes ≡ 0) ↔ (Counts × (Offsets × Sized))
-  unfolding formRefusal offsetsFit lengthFits
+  offsets-say : (offsetsFit bytes ≡ true) ↔ Offsets
+  unfolding offsetsFit
+  offsets-say =
+      both (eq-reads (field 2 thresholdOffsetField bytes) headerSize) (eq-reads (field 2 bucketOffsetField bytes) (bucketOffset (countIn bytes)))
+
+  pub form-says : (formRefusal bytes ≡ 0) ↔ (Counts × ((offsetsFit bytes ≡ true) × Sized))
+  unfolding formRefusal lengthFits
   form-says =
       let count = countIn bytes in
       let buckets = bucketsIn bytes in
-      let offsets = both (eq-reads (field 2 4 bytes) headerSize) (eq-reads (field 2 6 bytes) (bucketOffset count)) in
       let sized = last-says (lengthFits bytes) 6 (eq-reads (length bytes) (formSize count buckets)) in
       let from-size = unless (lengthFits bytes) 7 ∷ [] in
       none-says (countsFit count buckets) 0 (unless (offsetsFit bytes) 7 ∷ from-size) (counts-say count buckets)
-      (none-says (offsetsFit bytes) 6 from-size offsets sized)
+      (none-says (offsetsFit bytes) 6 from-size (λ e. e, λ e. e) sized)
 
   -- longer than the longest form: 1 where the counts do not fit, else 7, and no plan
-  module _ (h : 264 < length bytes) where
+  module _ (h : formLimit < length bytes) where
     pub overlong-form : (b : Bool) → countsFit (countIn bytes) (bucketsIn bytes) ≡ b → firstRefusal (unless b 1 ∷ 7 ∷ []) ≡ formRefusal bytes
     unfolding formRefusal lengthFits
     overlong-form false e = rw e
@@ -95,7 +111,7 @@ module _ (bytes : List ℕ) where
   abbrev plan : ℕ
   plan = planRefusal (planIn bytes)
 
-  read-says : (readRefusal bytes ≡ 0) ↔ ((headerSize ≤ length bytes) × ((Counts bytes × (Offsets bytes × Sized bytes)) × (plan ≡ 0)))
+  read-says : (readRefusal bytes ≡ 0) ↔ ((headerSize ≤ length bytes) × ((Counts bytes × ((offsetsFit bytes ≡ true) × Sized bytes)) × (plan ≡ 0)))
   unfolding readRefusal
   read-says =
       none-says (le? headerSize (length bytes)) 6 (formRefusal bytes ∷ plan ∷ []) (le-reads headerSize (length bytes))
@@ -106,11 +122,11 @@ module _ (bytes : List ℕ) where
     λ e. let h = read-says .0 e in record {
       long = h .0;
       counts = h .1 .0 .0;
-      offsets = h .1 .0 .1 .0;
+      offsets = offsets-say bytes .0 (h .1 .0 .1 .0);
       sized = h .1 .0 .1 .1;
       accepted = h .1 .1;
     },
-    λ h. read-says .1 (h .long, ((h .counts, (h .offsets, h .sized)), h .accepted)),
+    λ h. read-says .1 (h .long, ((h .counts, (offsets-say bytes .1 (h .offsets), h .sized)), h .accepted)),
   )
 
 -- ---- a writing
@@ -135,16 +151,3 @@ module _ (p : Plan) (bytes : List ℕ) where
   unfolding written bytesAfter
   written-some zero n e = absurd (n refl)
   written-some (suc r) n e = rw e (refl, refl)
-
-  module _ (r : ℕ) (e : r ≡ planRefusal p) where
-    pub plan-refused : ¬ (r ≡ 0) → writeRefusal p bytes ≡ r
-    unfolding writeRefusal
-    plan-refused n = rw (← e) (first-some r (unless (le? size (length bytes)) 12 ∷ []) n)
-
-    pub no-room : r ≡ 0 → length bytes < size → writeRefusal p bytes ≡ 12
-    unfolding writeRefusal
-    no-room z h = rw (← e, z, le?-fails size (length bytes) h)
-
-    pub room : r ≡ 0 → size ≤ length bytes → writeRefusal p bytes ≡ 0
-    unfolding writeRefusal
-    room z h = rw (← e, z, le?-complete size (length bytes) h)

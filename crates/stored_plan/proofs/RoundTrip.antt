@@ -7,18 +7,18 @@ use native.Mathlib.Omega.{arith}
 use lib.ListN.{length, take, drop}
 use lib.Seq.{length-take-le, take-all, take-at, drop-at}
 use Rattle.plan.specs.Places.{overTo}
-use Rattle.plan.specs.Plan.{countsFit}
+use Rattle.plan.specs.Plan.{countLimit, bucketLimit, countsFit}
 use Rattle.plan.specs.declared.Plan.{Plan}
 use Rattle.plan.specs.SameCounted.{SameCounted}
 use Rattle.plan.proofs.PlaceLaws.{le-or-lt}
 use Rattle.plan.proofs.PlaceLists.{join-cong}
 use Rattle.plan.proofs.AcceptedLaws.{accepted}
 use Rattle.plan.proofs.SameCountedLaws.{same-rules}
-use Rattle.stored_plan.specs.Form.{formSize, header, thresholdEntries, bucketEntries, encoded}
+use Rattle.stored_plan.specs.Form.{countField, bucketsField, formSize, formLimit, header, thresholdEntries, bucketEntries, encoded}
 use Rattle.stored_plan.specs.Reading.{filled, countIn, bucketsIn, planIn, readRefusal, noPlan, decodedBy, decoded}
 use Rattle.stored_plan.specs.Writing.{writeRefusal, writtenBy, bytesBy, written, bytesAfter}
-use Rattle.stored_plan.specs.RoundTrip.{PlanBack, BytesBack, FormLength, cutAt, CutReading, AcceptedForms, AcceptedWritings}
-use Rattle.stored_plan.specs.RoundTrip.{FormWritten, NoneOnRefusal, IgnoredInForm, Zeros}
+use Rattle.stored_plan.specs.RoundTrip.{PlanBack, BytesBack, WrittenBack, ReadBack, FormLength, cutAt, CutReading}
+use Rattle.stored_plan.specs.RoundTrip.{AcceptedForms, AcceptedWritings, FormWritten, NoneOnRefusal, IgnoredInForm, Zeros}
 use Rattle.stored_plan.proofs.LittleLaws.{field-cut}
 use Rattle.stored_plan.proofs.FormLaws.{longest, encoded-length}
 use Rattle.stored_plan.proofs.Refusals.{readable, overlong-form, overlong, decoded-none, decoded-some, writable, written-none, written-some}
@@ -60,14 +60,14 @@ form-length-holds p e =
     (encoded-length p, rw (encoded-length p) (longest (p .count) (p .buckets) (a .count-range, a .buckets-range)))
 
 -- bytes that are cut behind the longest form
-module _ (n : ℕ) (h : 264 < n) (bytes : List ℕ) (l : n ≤ length bytes) where
+module _ (n : ℕ) (h : formLimit < n) (bytes : List ℕ) (l : n ≤ length bytes) where
   counts-cut : countsFit (countIn (take n bytes)) (bucketsIn (take n bytes)) ≡ countsFit (countIn bytes) (bucketsIn bytes)
   unfolding countIn bucketsIn
-  counts-cut = rw (field-cut 2 0 n bytes (omega arith) l, field-cut 2 2 n bytes (omega arith) l)
+  counts-cut = rw (field-cut 2 countField n bytes (omega arith) l, field-cut 2 bucketsField n bytes (omega arith) l)
 
   cut-same : decoded (take n bytes) ≡ decoded bytes
   cut-same =
-      let long : 264 < length (take n bytes) = rw (length-take-le n bytes l) h in
+      let long : formLimit < length (take n bytes) = rw (length-take-le n bytes l) h in
       let form = sym (overlong-form (take n bytes) long _ counts-cut) ∙ overlong-form bytes (omega arith) _ refl in
       sym (overlong (take n bytes) long) ∙ rw form (overlong bytes (omega arith))
 
@@ -91,13 +91,24 @@ form-written-holds p bytes e =
     let rest = drop (formSize (p .count) (p .buckets)) bytes in
     rw (← w .0, ← w .1) (take-at (encoded p) rest _ n, drop-at (encoded p) rest _ n)
 
+pub written-back-holds : WrittenBack
+written-back-holds p bytes e = rw (form-written-holds p bytes e .0) (plan-back-holds p (accepted-writings-hold p bytes .0 e .0))
+
+pub read-back-holds : ReadBack
+read-back-holds bytes lent each e long =
+    let z = sym (read-refusal bytes) ∙ e in
+    let form = bytes-back bytes each z in
+    let size : formSize (planIn bytes .count) (planIn bytes .buckets) ≡ length bytes = sym (encoded-length (planIn bytes)) ∙ ap length form in
+    let w = written-none (planIn bytes) lent (writable (planIn bytes) lent .1 (readable bytes .0 z .accepted, rw size long)) in
+    rw (← decoded-none bytes z) (rw size at (sym (w .0)), rw (form, size) at (sym (w .1)))
+
 zeros : Zeros noPlan
 unfolding noPlan filled overTo
 zeros = record {
   counts = (refl, refl);
   times = (refl, refl);
-  entries = λ i. (filled-past 10 0 (λ k. k) i (omega arith), filled-past 10 0 (λ k. k) i (omega arith));
-  ends = λ j. (filled-past 16 0 (λ k. k) j (omega arith), filled-past 16 0 (λ k. k) j (omega arith));
+  entries = λ i. (filled-past countLimit 0 (λ k. k) i (omega arith), filled-past countLimit 0 (λ k. k) i (omega arith));
+  ends = λ j. (filled-past bucketLimit 0 (λ k. k) j (omega arith), filled-past bucketLimit 0 (λ k. k) j (omega arith));
 }
 
 pub none-on-refusal-holds : NoneOnRefusal

@@ -1,4 +1,4 @@
--- What a reader of this crate has to believe, in the order of the paper (01, "Stored form"). Definitions only.
+-- What a reader of this crate has to believe, in the order of docs/RULES.md, section 2. Definitions only.
 pub mod Little
 pub mod Form
 pub mod Reading

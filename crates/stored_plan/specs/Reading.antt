@@ -1,14 +1,15 @@
--- Reading a stored plan: any bytes give a plan or a refusal (01, refusal 7, and "Order").
+-- Reading a stored plan: any bytes give a plan or a refusal (rules 2.2).
 use mathlib.Core.Bool.{Bool, _&&_}
 use mathlib.Core.List.{List, [], _∷_}
 use Prim.Native.Nat.{ℕ, zero, suc, _+_}
 use lib.ListN.{length, replicate}
 use Rattle.walk.specs.Numbers.{le?}
 use Rattle.plan.specs.Places.{eq?, unless, firstRefusal, overTo}
-use Rattle.plan.specs.Plan.{countsFit, planRefusal}
+use Rattle.plan.specs.Plan.{countLimit, bucketLimit, countsFit, planRefusal}
 use Rattle.plan.specs.declared.Plan.{Plan}
 use Rattle.stored_plan.specs.Little.{field, column}
-use Rattle.stored_plan.specs.Form.{headerSize, bucketOffset, formSize}
+use Rattle.stored_plan.specs.Form.{headerSize, countField, bucketsField, thresholdOffsetField, bucketOffsetField, delayField, horizonField}
+use Rattle.stored_plan.specs.Form.{thresholdSize, allowanceField, bucketSize, rightField, bucketOffset, formSize}
 use Rattle.stored_plan.specs.declared.Read.{Read}
 
 -- a table with its first `count` places as f says
@@ -18,26 +19,26 @@ filled count f table = overTo count (λ i _. f i) table
 module _ (bytes : List ℕ) where
   -- the header's counts
   unfoldable pub countIn : ℕ
-  countIn = field 2 0 bytes
+  countIn = field 2 countField bytes
 
   unfoldable pub bucketsIn : ℕ
-  bucketsIn = field 2 2 bytes
+  bucketsIn = field 2 bucketsField bytes
 
   -- the plan that the bytes hold, if they hold one; zeros past the counts
   unfoldable pub planIn : Plan
   planIn = record {
     count = countIn;
     buckets = bucketsIn;
-    delay = field 4 8 bytes;
-    horizon = field 4 12 bytes;
-    thresholds = filled countIn (column 4 headerSize 12 bytes) (replicate 10 0);
-    allowances = filled countIn (column 8 (headerSize + 4) 12 bytes) (replicate 10 0);
-    left = filled bucketsIn (column 4 (bucketOffset countIn) 8 bytes) (replicate 16 0);
-    right = filled bucketsIn (column 4 (bucketOffset countIn + 4) 8 bytes) (replicate 16 0);
+    delay = field 4 delayField bytes;
+    horizon = field 4 horizonField bytes;
+    thresholds = filled countIn (column 4 headerSize thresholdSize bytes) (replicate countLimit 0);
+    allowances = filled countIn (column 8 (headerSize + allowanceField) thresholdSize bytes) (replicate countLimit 0);
+    left = filled bucketsIn (column 4 (bucketOffset countIn) bucketSize bytes) (replicate bucketLimit 0);
+    right = filled bucketsIn (column 4 (bucketOffset countIn + rightField) bucketSize bytes) (replicate bucketLimit 0);
   }
 
   unfoldable pub offsetsFit : Bool
-  offsetsFit = eq? (field 2 4 bytes) headerSize && eq? (field 2 6 bytes) (bucketOffset countIn)
+  offsetsFit = eq? (field 2 thresholdOffsetField bytes) headerSize && eq? (field 2 bucketOffsetField bytes) (bucketOffset countIn)
 
   unfoldable pub lengthFits : Bool
   lengthFits = eq? (length bytes) (formSize countIn bucketsIn)
@@ -46,7 +47,7 @@ module _ (bytes : List ℕ) where
   unfoldable pub formRefusal : ℕ
   formRefusal = firstRefusal (unless (countsFit countIn bucketsIn) 1 ∷ unless offsetsFit 7 ∷ unless lengthFits 7 ∷ [])
 
-  -- 7 for a length under 16, the form's, the plan's
+  -- 7 for a length under the header's, the form's, the plan's
   unfoldable pub readRefusal : ℕ
   readRefusal = firstRefusal (unless (le? headerSize (length bytes)) 7 ∷ formRefusal ∷ planRefusal planIn ∷ [])
 
@@ -57,10 +58,10 @@ noPlan = record {
   buckets = 0;
   delay = 0;
   horizon = 0;
-  thresholds = replicate 10 0;
-  allowances = replicate 10 0;
-  left = replicate 16 0;
-  right = replicate 16 0;
+  thresholds = replicate countLimit 0;
+  allowances = replicate countLimit 0;
+  left = replicate bucketLimit 0;
+  right = replicate bucketLimit 0;
 }
 
 abbrev pub decodedBy : ℕ → List ℕ → Read

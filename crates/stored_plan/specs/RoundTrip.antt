@@ -1,14 +1,14 @@
--- What is proved of plans and their forms, as statements (01, "The plan": stored form). The proofs are in proofs/RoundTrip.
-use mathlib.Core.List.{List}
+-- What is proved of plans and their forms, as statements (rules 2.4). The proofs are in proofs/RoundTrip.
+use mathlib.Core.List.{List, _++_}
 use mathlib.Core.Logic.{_↔_}
 use mathlib.Core.Path.{_≡_}
-use Prim.Native.Nat.{ℕ, _≤_}
+use Prim.Native.Nat.{ℕ, _+_, _≤_}
 use lib.ListN.{length, take, drop}
-use Rattle.plan.specs.Plan.{thresholdAt, allowanceAt, leftAt, rightAt, planRefusal}
+use Rattle.plan.specs.Plan.{countLimit, bucketLimit, thresholdAt, allowanceAt, leftAt, rightAt, planRefusal}
 use Rattle.plan.specs.SameCounted.{SameCounted}
 use Rattle.plan.specs.declared.Plan.{Plan}
 use Rattle.stored_plan.specs.Little.{Bytes}
-use Rattle.stored_plan.specs.Form.{formSize, encoded}
+use Rattle.stored_plan.specs.Form.{formSize, formLimit, encoded}
 use Rattle.stored_plan.specs.Reading.{decoded}
 use Rattle.stored_plan.specs.Writing.{written, bytesAfter}
 
@@ -17,7 +17,8 @@ pub record Same (p q : Plan) : Type 0 where
   pub counted-same : SameCounted p q
   pub entries-past : (i : ℕ) → p .count ≤ i → (thresholdAt q i ≡ 0) × (allowanceAt q i ≡ 0)
   pub ends-past : (j : ℕ) → p .buckets ≤ j → (leftAt q j ≡ 0) × (rightAt q j ≡ 0)
-  pub places : (length (q .thresholds) ≡ 10) × (length (q .allowances) ≡ 10) × (length (q .left) ≡ 16) × (length (q .right) ≡ 16)
+  pub places : (length (q .thresholds) ≡ countLimit) × (length (q .allowances) ≡ countLimit)
+      × (length (q .left) ≡ bucketLimit) × (length (q .right) ≡ bucketLimit)
 
 -- zeros in every number
 pub record Zeros (p : Plan) : Type 0 where
@@ -34,15 +35,26 @@ PlanBack = (p : Plan) → planRefusal p ≡ 0 → (decoded (encoded p) .refusal 
 abbrev pub BytesBack : Type 0
 BytesBack = (bytes : List ℕ) → Bytes bytes → decoded bytes .refusal ≡ 0 → encoded (decoded bytes .plan) ≡ bytes
 
--- an accepted plan's form has the length that its counts say, at most 264
+-- both of what the entries hand back: what was written into lent bytes, any that the form fits, is read as the plan
+abbrev pub WrittenBack : Type 0
+WrittenBack = (p : Plan) (bytes : List ℕ) → written p bytes .refusal ≡ 0
+    → let stored = take (written p bytes .size) (bytesAfter p bytes) in (decoded stored .refusal ≡ 0) × Same p (decoded stored .plan)
+
+-- accepted bytes, read, then written into lent bytes, any that are long enough, stand at their start, and the rest is as it was
+abbrev pub ReadBack : Type 0
+ReadBack = (bytes lent : List ℕ) → Bytes bytes → decoded bytes .refusal ≡ 0 → length bytes ≤ length lent
+    → let p = decoded bytes .plan in
+    (written p lent ≡ record { refusal = 0; size = length bytes }) × (bytesAfter p lent ≡ bytes ++ drop (length bytes) lent)
+
+-- an accepted plan's form has the length that its counts say, at most the longest
 abbrev pub FormLength : Type 0
-FormLength = (p : Plan) → planRefusal p ≡ 0 → (length (encoded p) ≡ formSize (p .count) (p .buckets)) × (length (encoded p) ≤ 264)
+FormLength = (p : Plan) → planRefusal p ≡ 0 → (length (encoded p) ≡ formSize (p .count) (p .buckets)) × (length (encoded p) ≤ formLimit)
 
 -- one byte more than the longest form has
 abbrev pub cutAt : ℕ
-cutAt = 265
+cutAt = formLimit + 1
 
--- bytes and their first 265 are read alike: the program's buffer for a file may end there, since a longer one is refused alike by 1 or 7
+-- bytes cut there are read alike: the program's buffer for a file may end there, since a longer one is refused alike by 1 or 7
 abbrev pub CutReading : Type 0
 CutReading = (bytes : List ℕ) → decoded (take cutAt bytes) ≡ decoded bytes
 

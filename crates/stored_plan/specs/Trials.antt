@@ -1,4 +1,4 @@
--- Plan F's stored form (01, "The program"): 44 bytes; and damaged forms, with the refusals in their order (01, "Order").
+-- Plan F's stored form, 44 bytes (rules 11); and damaged forms, with the refusals in their order (rules 8.2).
 use mathlib.Core.Path.{_≡_}
 use mathlib.Core.List.{List, [], _∷_, _++_, map}
 use Prim.Native.Nat.{ℕ}

@@ -1,4 +1,4 @@
--- Writing a plan into lent bytes (01, refusal 12, and "Order").
+-- Writing a plan into lent bytes (rules 2.3).
 use mathlib.Core.List.{List, [], _∷_, _++_}
 use Prim.Native.Nat.{ℕ, zero, suc}
 use lib.ListN.{length, drop}

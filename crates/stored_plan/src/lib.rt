@@ -1,9 +1,16 @@
-// The stored form of a plan (01, "The plan": stored form).
+// The stored form of a plan (rules 2).
+mod form;
 mod little;
+mod order;
 pub mod reading;
 pub mod writing;
 
 use plan::Plan;
+
+// The length of the header, and that of the longest form, in bytes (rules 2.1).
+pub const HEADER_SIZE: usize = 16;
+
+pub const FORM_LIMIT: usize = 264;
 
 // A plan that was read, or the number of the refusal, 0 for none; a refused reading hands back zeros in every number of the plan.
 pub struct Read {

@@ -1,37 +1,45 @@
-// Reading a stored plan: any bytes give a plan or a refusal (01, refusal 7, and "Order").
+// Reading a stored plan: any bytes give a plan or a refusal (rules 2.2).
 ghost use mathlib.Core.Path.{_≡_};
 ghost use Prim.Native.Nat.{ℕ, _+_, _*_, _≤_, _<_};
 ghost use lib.ListN.{length};
+ghost use Rattle.plan.specs.Plan.{countLimit, bucketLimit};
 ghost use Rattle.stored_plan.specs.Little.{column};
 ghost use Rattle.stored_plan.specs.Form.{headerSize, formSize};
-ghost use Rattle.stored_plan.specs.Reading.{filled, countIn, bucketsIn, planIn, offsetsFit, lengthFits, formRefusal, noPlan, decoded};
+ghost use Rattle.stored_plan.specs.Reading.{filled, countIn, bucketsIn, planIn, offsetsFit, formRefusal, noPlan, decoded};
+use crate::HEADER_SIZE;
 use crate::Read;
+use crate::form::ALLOWANCE_FIELD;
+use crate::form::BUCKET_OFFSET_FIELD;
+use crate::form::BUCKET_SIZE;
+use crate::form::BUCKETS_FIELD;
+use crate::form::COUNT_FIELD;
+use crate::form::DELAY_FIELD;
+use crate::form::HORIZON_FIELD;
+use crate::form::RIGHT_FIELD;
+use crate::form::THRESHOLD_OFFSET_FIELD;
+use crate::form::THRESHOLD_SIZE;
+use crate::form::bucket_offset;
+use crate::form::form_size;
 use crate::little::read_le;
 use crate::little::read_u32;
+use crate::order::first_refusal;
+use crate::order::unless;
 use plan::Plan;
 use plan::rules::counts_fit;
 use plan::rules::plan_refusal;
 
-// The header's offsets are those of its counts (01, refusal 7).
+// The header's offsets are those of its counts.
 fn offsets_fit(bytes: &[u8]) -> bool
     requires { ⌜ headerSize ≤ length (now bytes) ⌝ }
     ensures { λ r. ⌜ r ≡ offsetsFit (now (bytes .entry)) ⌝ }
 {
-    let count = read_u32(bytes, 0, 2);
-    if read_u32(bytes, 4, 2) != 16 {
+    let count = read_u32(bytes, COUNT_FIELD, 2);
+    let thresholds = read_le(bytes, THRESHOLD_OFFSET_FIELD, 2) as usize;
+    let buckets = read_le(bytes, BUCKET_OFFSET_FIELD, 2) as usize;
+    if thresholds != HEADER_SIZE {
         return false;
     }
-    read_u32(bytes, 6, 2) == 16 + 12 * count
-}
-
-// The length is that of the header's counts (01, refusal 7).
-fn length_fits(bytes: &[u8]) -> bool
-    requires { ⌜ headerSize ≤ length (now bytes) ⌝ }
-    ensures { λ r. ⌜ r ≡ lengthFits (now (bytes .entry)) ⌝ }
-{
-    let count = read_le(bytes, 0, 2) as usize;
-    let buckets = read_le(bytes, 2, 2) as usize;
-    bytes.len() == 16 + 12 * count + 8 * buckets
+    buckets == bucket_offset(count)
 }
 
 // The refusal of a form that has a header, before its plan is judged: 1, 7 for offsets, 7 for the length.
@@ -39,16 +47,12 @@ fn form_refusal(bytes: &[u8]) -> u32
     requires { ⌜ headerSize ≤ length (now bytes) ⌝ }
     ensures { λ r. ⌜ r ≡ formRefusal (now (bytes .entry)) ⌝ }
 {
-    let counts = counts_fit(read_u32(bytes, 0, 2), read_u32(bytes, 2, 2));
-    let offsets = offsets_fit(bytes);
-    let size = length_fits(bytes);
-    if !counts {
-        return 1;
-    }
-    if !offsets {
-        return 7;
-    }
-    if size { 0 } else { 7 }
+    let count = read_u32(bytes, COUNT_FIELD, 2);
+    let buckets = read_u32(bytes, BUCKETS_FIELD, 2);
+    let counts = unless(counts_fit(count, buckets), 1);
+    let offsets = unless(offsets_fit(bytes), 7);
+    let size = unless(bytes.len() == form_size(count, buckets), 7);
+    first_refusal(counts, first_refusal(offsets, size))
 }
 
 // Numbers of `width` bytes, at an offset and at each stride from there on, into the first `count` places of a table.
@@ -80,25 +84,32 @@ fn long_fields_in(
 
 // The plan of a form that its counts and its length fit.
 fn plan_in(bytes: &[u8]) -> Plan
-    requires { ⌜ (countIn (now bytes) ≤ 10) × (bucketsIn (now bytes) ≤ 16)
+    requires { ⌜ (countIn (now bytes) ≤ countLimit) × (bucketsIn (now bytes) ≤ bucketLimit)
         × (length (now bytes) ≡ formSize (countIn (now bytes)) (bucketsIn (now bytes))) ⌝ }
     ensures { λ r. ⌜ r ≡ planIn (now (bytes .entry)) ⌝ }
 {
-    let count = read_u32(bytes, 0, 2);
-    let buckets = read_u32(bytes, 2, 2);
-    let delay = read_u32(bytes, 8, 4);
-    let horizon = read_u32(bytes, 12, 4);
+    let count = read_u32(bytes, COUNT_FIELD, 2);
+    let buckets = read_u32(bytes, BUCKETS_FIELD, 2);
+    let delay = read_u32(bytes, DELAY_FIELD, 4);
+    let horizon = read_u32(bytes, HORIZON_FIELD, 4);
     let k = count as usize;
     let b = buckets as usize;
-    let at = 16 + 12 * k;
+    let at = bucket_offset(count);
     let mut thresholds = [0u32; 10];
-    fields_in(bytes, 16, 12, 4, k, &mut thresholds);
+    fields_in(bytes, HEADER_SIZE, THRESHOLD_SIZE, 4, k, &mut thresholds);
     let mut allowances = [0u64; 10];
-    long_fields_in(bytes, 20, 12, 8, k, &mut allowances);
+    long_fields_in(
+        bytes,
+        HEADER_SIZE + ALLOWANCE_FIELD,
+        THRESHOLD_SIZE,
+        8,
+        k,
+        &mut allowances,
+    );
     let mut left = [0u32; 16];
-    fields_in(bytes, at, 8, 4, b, &mut left);
+    fields_in(bytes, at, BUCKET_SIZE, 4, b, &mut left);
     let mut right = [0u32; 16];
-    fields_in(bytes, at + 4, 8, 4, b, &mut right);
+    fields_in(bytes, at + RIGHT_FIELD, BUCKET_SIZE, 4, b, &mut right);
     Plan {
         count,
         buckets,
@@ -130,11 +141,11 @@ fn refused(r: u32) -> Read
     }
 }
 
-// The plan that any bytes hold, or the refusal: 7 for a length under 16, then as `form_refusal` says, then the plan's.
+// The plan that any bytes hold, or the refusal: 7 for a length under the header's, then as `form_refusal` says, then the plan's.
 pub fn read_plan(bytes: &[u8]) -> Read
     ensures { λ r. ⌜ r ≡ decoded (now (bytes .entry)) ⌝ }
 {
-    if bytes.len() < 16 {
+    if bytes.len() < HEADER_SIZE {
         return refused(7);
     }
     let form = form_refusal(bytes);

@@ -1,26 +1,20 @@
 -- The table is filled up to place i.
-use mathlib.Core.Path.{_≡_, refl}
-use Prim.Native.Nat.{_-_, _≤_}
+use Prim.Native.Nat.{_-_}
 use native.Mathlib.Omega.{arith}
 use borrow.Author.Needs.{needs}
-use lib.ListN.{length}
-use Rattle.plan.specs.Places.{overTo}
 use Rattle.stored_plan.specs.Little.{column}
-use Rattle.stored_plan.specs.Reading.{filled}
-use Rattle.stored_plan.proofs.ReadingLaws.{fill-next}
+use Rattle.stored_plan.proofs.ReadingLaws.{FilledTo, fill-none, fill-next, fill-all}
 use Rattle.stored_plan.proofs.reading.fields_in.Statement.{statement}
 use Rattle.stored_plan.proofs.reading.fields_in.Tie as tie
 
 abbrev Inv-loop : tie.InvT-loop
-Inv-loop bytes at stride width count table₀ i₀ table i =
-    (i ≤ count) × (length table ≡ length table₀) × (table ≡ filled i (column width at stride bytes) table₀)
+Inv-loop bytes at stride width count table₀ i₀ table i = FilledTo count (column width at stride bytes) table₀ i table
 
 abbrev μ-loop : tie.MeasureT-loop
 μ-loop bytes at stride width count table₀ i₀ table i = count - i
 
 loop-holds : tie.Need-loop-holds Inv-loop μ-loop
-unfolding filled overTo
-loop-holds c = (omega arith, refl, refl)
+loop-holds c = fill-none _ _ _
 
 mul-read-u32 : tie.Need-mul-read-u32 Inv-loop μ-loop
 mul-read-u32 c = record { fits = omega (arith, c .before .before .before .before .pre .2 (c .before .loop .i) (c .loop-test .taken)) }
@@ -48,16 +42,13 @@ loop-again c =
     let l = c .before .before .loop in
     let a = c .before .before .before .before .before .args in
     let f = column (a .width) (a .at) (a .stride) (a .bytes .now) in
-    (omega arith, search needs, fill-next (l .i) f (a .table .now) (l .table) (l .inv .2) (c .read-u32 .result) (c .read-u32 .ensures .0))
+    fill-next (a .count) f (a .table .now) (l .i) (l .table) (l .inv) (c .before .loop-test .taken) (c .read-u32 .result) (c .read-u32 .ensures .0)
 
 same-length : tie.Need-same-length Inv-loop μ-loop
 same-length c = search needs
 
 returns : tie.Need-returns Inv-loop μ-loop
-returns c =
-    let l = c .before .loop in
-    let n : l .i ≡ c .before .before .before .before .args .count = omega arith in
-    rw (← n) (l .inv .2)
+returns c = let l = c .before .loop in fill-all _ _ _ (l .i) (l .table) (l .inv) (omega arith)
 
 pub fields-in-spec : {M : Type 1} → statement M
 fields-in-spec =

@@ -28,11 +28,8 @@ cast-k c = search needs
 cast-b : tie.Need-cast-b
 cast-b c = search needs
 
-mul-at : tie.Need-mul-at
-mul-at c = search needs
-
-add-at : tie.Need-add-at
-add-at c = search needs
+bucket-offset-requires : tie.Need-bucket-offset-requires
+bucket-offset-requires c κs = search needs
 
 slice-aggregate-fields-in : tie.Need-slice-aggregate-fields-in
 slice-aggregate-fields-in c = search needs
@@ -40,6 +37,9 @@ slice-aggregate-fields-in c = search needs
 fields-in-requires : tie.Need-fields-in-requires
 unfolding formSize bucketOffset countIn bucketsIn
 fields-in-requires c κs = (omega arith, omega arith, λ i l. omega arith)
+
+add-long-fields-in : tie.Need-add-long-fields-in
+add-long-fields-in c = search needs
 
 slice-aggregate-long-fields-in : tie.Need-slice-aggregate-long-fields-in
 slice-aggregate-long-fields-in c = search needs
@@ -56,6 +56,7 @@ unfolding formSize bucketOffset countIn bucketsIn
 fields-in-requires-2 c κs = (omega arith, omega arith, λ i l. omega arith)
 
 add-fields-in : tie.Need-add-fields-in
+unfolding formSize bucketOffset countIn bucketsIn
 add-fields-in c = search needs
 
 slice-aggregate-fields-in-3 : tie.Need-slice-aggregate-fields-in-3
@@ -66,11 +67,11 @@ unfolding formSize bucketOffset countIn bucketsIn
 fields-in-requires-3 c κs = (omega arith, omega arith, λ i l. omega arith)
 
 returns : tie.Need-returns
-unfolding planIn bucketOffset countIn bucketsIn
+unfolding planIn countIn bucketsIn
 returns c =
     let to-left = c .before .before .before .before in
     let to-thresholds = to-left .before .before .before .before .before .before in
-    let to-times = to-thresholds .before .before in
+    let to-times = to-thresholds .before .before .before in
     let k = to-times .before .before .before .read-u32 in
     let b = to-times .before .before .read-u322 in
     rw (
@@ -78,6 +79,7 @@ returns c =
       to-left .fields-in2 .ensures,
       to-left .before .before .before .long-fields-in .ensures,
       to-thresholds .fields-in .ensures,
+      to-thresholds .before .before .bucket-offset .ensures,
       to-times .read-u324 .ensures .0,
       to-times .before .read-u323 .ensures .0,
       b .ensures .0,
@@ -94,10 +96,10 @@ plan-in-spec =
     read-u32-requires-4
     cast-k
     cast-b
-    mul-at
-    add-at
+    bucket-offset-requires
     slice-aggregate-fields-in
     fields-in-requires
+    add-long-fields-in
     slice-aggregate-long-fields-in
     long-fields-in-requires
     slice-aggregate-fields-in-2

@@ -1,18 +1,14 @@
 -- Its three pairs, one behind the other.
 use mathlib.Core.List.{_++_, append-assoc}
-use Prim.Native.Nat.{_+_, _*_}
 use native.Mathlib.Omega.{arith}
 use borrow.Author.Needs.{needs}
 use lib.ListN.{length-append}
 use Rattle.stored_plan.specs.Little.{toLE}
-use Rattle.stored_plan.specs.Form.{bucketOffset, header}
+use Rattle.stored_plan.specs.Form.{headerSize, header}
 use Rattle.stored_plan.proofs.LittleLaws.{to-length}
 use Rattle.stored_plan.proofs.Putting.{then}
 use Rattle.stored_plan.proofs.writing.write_header.Statement.{statement}
 use Rattle.stored_plan.proofs.writing.write_header.Tie as tie
-
-cast-k : tie.Need-cast-k
-cast-k c = search needs
 
 cast-write-two : tie.Need-cast-write-two
 cast-write-two c = search needs
@@ -20,17 +16,14 @@ cast-write-two c = search needs
 write-two-requires : tie.Need-write-two-requires
 write-two-requires c κs = search needs
 
-mul-write-two : tie.Need-mul-write-two
-mul-write-two c = search needs
-
-add-write-two : tie.Need-add-write-two
-add-write-two c = search needs
-
-write-two-requires-2 : tie.Need-write-two-requires-2
-write-two-requires-2 c κs = search needs
+bucket-offset-requires : tie.Need-bucket-offset-requires
+bucket-offset-requires c κs = search needs
 
 cast-write-two-2 : tie.Need-cast-write-two-2
 cast-write-two-2 c = search needs
+
+write-two-requires-2 : tie.Need-write-two-requires-2
+write-two-requires-2 c κs = search needs
 
 cast-write-two-3 : tie.Need-cast-write-two-3
 cast-write-two-3 c = search needs
@@ -42,32 +35,32 @@ same-length : tie.Need-same-length
 same-length c = search needs
 
 returns : tie.Need-returns
-unfolding header bucketOffset
+unfolding header
 returns c =
     let to-times = c .before .before in
-    let to-offsets = to-times .before .before .before .before .before .before in
-    let to-counts = to-offsets .before .before .before .before in
-    let a = to-counts .before .before .before .before .before .args in
+    let to-offsets = to-times .before .before .before .before .before in
+    let at = to-offsets .before .before .bucket-offset in
+    let to-counts = to-offsets .before .before .before .before .before in
+    let a = to-counts .before .before .before .before .args in
     let counts = toLE 2 (a .p .count) ++ toLE 2 (a .p .buckets) in
-    let offsets = toLE 2 16 ++ toLE 2 (16 + 12 * a .p .count) in
+    let offsets = toLE 2 headerSize ++ toLE 2 (at .result) in
     let times = toLE 4 (a .p .delay) ++ toLE 4 (a .p .horizon) in
     let one = to-counts .write-two .ensures in
     let two = to-offsets .write-two2 .ensures in
     let three = to-times .write-two3 .ensures in
     let front = then 0 counts offsets (a .bytes .now) _ _ 4 one two (omega arith) (simp (length-append, to-length)) in
-    simp append-assoc at (then 0 (counts ++ offsets) times (a .bytes .now) _ _ 8 front three (omega arith) (simp (length-append, to-length)))
+    let whole = then 0 (counts ++ offsets) times (a .bytes .now) _ _ 8 front three (omega arith) (simp (length-append, to-length)) in
+    rw (← at .ensures) (simp append-assoc at whole)
 
 pub write-header-spec : {M : Type 1} → statement M
 write-header-spec =
     tie.close
     (tie.spec
-    cast-k
     cast-write-two
     write-two-requires
-    mul-write-two
-    add-write-two
-    write-two-requires-2
+    bucket-offset-requires
     cast-write-two-2
+    write-two-requires-2
     cast-write-two-3
     write-two-requires-3
     same-length
