@@ -1,5 +1,6 @@
-// The program but for its write (01, "The program").
-pub mod feeding;
-pub mod input;
+// The program but for its write (rules 9).
+mod ascii;
+mod feeding;
+mod input;
 pub mod line;
 pub mod program;
