@@ -8,6 +8,7 @@ use lib.ListN.{length, take, drop, getD, set, length-set, take-append-drop, drop
 use lib.Seq.{drop-cons, take-suc-set, drop-set-lt, drop-drop, length-take-le}
 use Rattle.io.specs.Counts.{Counts}
 use Rattle.plan.proofs.PlaceLaws.{eq?-complete, eq?-fails}
+use Rattle.console.specs.Ascii.{newline}
 use Rattle.console.specs.Input.{drawOf, drawsOf}
 
 -- i characters are turned into the draws before at; behind these the chunk is as it was
@@ -33,18 +34,18 @@ module _ (chunk₀ chunk : List ℕ) (at i : ℕ) (t : Turned chunk₀ chunk at 
       sym (drop-later chunk chunk₀ at i (t .order) (t .kept)) ∙ drop-cons chunk i 0 l ∙ rw (add-one i, drop-later chunk chunk₀ at (suc i) (omega (arith, t .order)) (t .kept))
 
   -- a newline is skipped
-  pub turned-skip : getD chunk i 0 ≡ 10 → Turned chunk₀ chunk at (i + 1)
+  pub turned-skip : getD chunk i 0 ≡ newline → Turned chunk₀ chunk at (i + 1)
   unfolding drawsOf
   turned-skip e = record {
     order = omega (arith, t .order);
     within = omega arith;
     size = t .size;
-    done = rw (next, eq?-complete (getD chunk i 0) 10 e) at (t .done);
+    done = rw (next, eq?-complete (getD chunk i 0) newline e) at (t .done);
     kept = t .kept;
   }
 
   -- any other becomes a draw
-  pub turned-draw : (d : ℕ) → (getD chunk i 0 ≡ 10 → ⊥) → d ≡ drawOf (getD chunk i 0) → Turned chunk₀ (set chunk at d) (at + 1) (i + 1)
+  pub turned-draw : (d : ℕ) → (getD chunk i 0 ≡ newline → ⊥) → d ≡ drawOf (getD chunk i 0) → Turned chunk₀ (set chunk at d) (at + 1) (i + 1)
   unfolding drawsOf
   turned-draw d ne e =
       let x : at < length chunk = omega (arith, t .order, t .size) in
@@ -52,7 +53,7 @@ module _ (chunk₀ chunk : List ℕ) (at i : ℕ) (t : Turned chunk₀ chunk at 
         order = omega (arith, t .order);
         within = omega arith;
         size = length-set chunk at d ∙ t .size;
-        done = rw (add-one at, take-suc-set chunk at d x, append-assoc, e) (rw (next, eq?-fails (getD chunk i 0) 10 ne) at (t .done));
+        done = rw (add-one at, take-suc-set chunk at d x, append-assoc, e) (rw (next, eq?-fails (getD chunk i 0) newline ne) at (t .done));
         kept = rw (add-one at, drop-set-lt (suc at) chunk at d (omega arith)) (drop-later chunk chunk₀ at (suc at) (omega arith) (t .kept));
       }
 

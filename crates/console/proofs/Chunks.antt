@@ -9,6 +9,7 @@ use Rattle.plan.specs.Places.{eq?}
 use Rattle.bucket_test.specs.Draw.{Outcome, outcomeOf}
 use Rattle.plan.specs.declared.Plan.{Plan}
 use Rattle.bucket_test.specs.declared.Drawn.{Drawn}
+use Rattle.console.specs.Ascii.{newline}
 use Rattle.console.specs.Input.{drawOf, drawsOf}
 use Rattle.console.specs.Run.{ran}
 use Rattle.console.specs.Program.{Taken}
@@ -17,7 +18,7 @@ use Rattle.console.proofs.Runs.{run-append}
 draws-append : (xs ys : List ℕ) → drawsOf (xs ++ ys) ≡ drawsOf xs ++ drawsOf ys
 unfolding drawsOf
 draws-append [] ys = refl
-draws-append (c ∷ xs) ys = go (eq? c 10) (draws-append xs ys)
+draws-append (c ∷ xs) ys = go (eq? c newline) (draws-append xs ys)
   where
     go : (b : Bool) → drawsOf (xs ++ ys) ≡ drawsOf xs ++ drawsOf ys
         → cond b (drawsOf (xs ++ ys)) (drawOf c ∷ drawsOf (xs ++ ys)) ≡ cond b (drawsOf xs) (drawOf c ∷ drawsOf xs) ++ drawsOf ys

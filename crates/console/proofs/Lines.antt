@@ -12,13 +12,13 @@ use Rattle.walk.specs.Numbers.{le?, lt?}
 use Rattle.walk.proofs.Searches.{search-only}
 use Rattle.walk.proofs.Tests.{Le?, le, gt, test, le?-complete, le?-fails}
 use Rattle.stored_plan.specs.Little.{putAt}
-use Rattle.stored_plan.proofs.Putting.{then, put-first}
+use Rattle.stored_plan.proofs.Putting.{then}
 use Rattle.bucket_test.specs.Answers.{Values, valuesOf}
 use Rattle.bucket_test.specs.declared.State.{State}
 use Rattle.bucket_test.specs.declared.Report.{Report}
 use Rattle.bucket_test.specs.declared.Answer.{Answer}
 use Rattle.bucket_test.specs.declared.Answer.the-variants.{Open, Decided, Crossed, Wide, Spent, Refused}
-use Rattle.console.specs.Line.{places, decimal, valuesLine, lineBy, lineOf, Puts, Holds}
+use Rattle.console.specs.Line.{places, decimal, valuesLine, lineBy, lineOf, Puts}
 
 -- a copy of all the bytes
 pub copied : (bytes before after : List ℕ) (at i : ℕ) → i ≡ length bytes → after ≡ paste before at bytes i
@@ -35,18 +35,10 @@ puts-more {xs} {ys} {before} {between} {after} {at} {m} h p q = record {
   whole = then at xs ys before between after m (p .whole) (q .whole) h (p .behind);
 }
 
--- bytes put at the start, and bytes put behind a text
-pub begins : {bytes before after : List ℕ} {next : ℕ} → Puts bytes 0 next before after → Holds bytes next before after
-begins {bytes} {before} {after} {next} p =
-    let size : next ≡ length bytes = omega (arith, p .behind) in
-    record { size = size; whole = p .whole ∙ rw size (put-first bytes before) }
-
-pub holds-more : {text bytes before between after : List ℕ} {at next : ℕ} → Holds text at before between → Puts bytes at next between after
-    → Holds (text ++ bytes) next before after
-holds-more {text} {bytes} {before} {between} {after} {at} {next} h p =
-    let first : Puts text 0 at before between =
-    record { behind = omega (arith, h .size); whole = h .whole ∙ rw (h .size) (sym (put-first text before)) } in
-    begins (puts-more (omega arith) first p)
+-- .. behind what begins the line
+pub line-more : {text bytes before between after : List ℕ} {at next : ℕ} → Puts text 0 at before between → Puts bytes at next between after
+    → Puts (text ++ bytes) 0 next before after
+line-more = puts-more (omega arith)
 
 -- the fewest digits that hold a number
 module _ (n r : ℕ) (f : Fewest 10 1 n r) where

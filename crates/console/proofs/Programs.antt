@@ -13,36 +13,36 @@ use Rattle.stored_plan.specs.Reading.{decoded}
 use Rattle.stored_plan.specs.declared.Read.{Read}
 use Rattle.console.specs.Run.{ran}
 use Rattle.console.specs.Input.{drawsOf}
-use Rattle.console.specs.Line.{refusedLine, lineAfter, Holds}
+use Rattle.console.specs.Line.{refusedLine, lineAfter, Puts}
 use Rattle.console.specs.Program.{Taken, Printed, played, servedBy, served, Prints}
 
 -- a test from its beginning to its line
 pub plays : (p : Plan) (words words₁ words₂ : List ℕ) (b last : Drawn) (n : ℕ) (before after : List ℕ) → b ≡ drawnOf (begun p words)
-    → words₁ ≡ begun p words .words → Taken p (outcomeOf b words₁) last words₂ → Holds (lineAfter p last) n before after
+    → words₁ ≡ begun p words .words → Taken p (outcomeOf b words₁) last words₂ → Puts (lineAfter p last) 0 n before after
     → Prints (played p words) n words₂ before after
 unfolding played
 plays p words words₁ words₂ b last n before after b-is w-is t h =
     let e : outcomeOf last words₂ ≡ ran p (begun p words) (drawsOf (t .text)) = rw (b-is, w-is) at (t .outcome) in
     record {
       text = t .text;
-      line-is = subst (λ (o : Outcome). Holds (lineAfter p (drawnOf o)) n before after) e h;
+      line-is = subst (λ (o : Outcome). Puts (lineAfter p (drawnOf o)) 0 n before after) e h;
       words-are = ap (λ (o : Outcome). o .words) e;
     }
 
 module _ (stored words : List ℕ) (n : ℕ) (before after : List ℕ) (got : Read) (is : got ≡ decoded stored) where
   prints : (text line words′ : List ℕ) → servedBy (got .refusal) (got .plan) words text ≡ record { line = line; words = words′ }
-      → Holds line n before after → Prints (served stored words) n words′ before after
+      → Puts line 0 n before after → Prints (served stored words) n words′ before after
   unfolding served
   prints text line words′ e h =
       let e : served stored words text ≡ record { line = line; words = words′ } = rw (← is) e in
       record {
         text = text;
-        line-is = subst (λ (r : Printed). Holds (r .line) n before after) (sym e) h;
+        line-is = subst (λ (r : Printed). Puts (r .line) 0 n before after) (sym e) h;
         words-are = ap (λ (r : Printed). r .words) (sym e);
       }
 
   -- the plan is refused
-  pub serves-refused : 0 < got .refusal → Holds (refusedLine (got .refusal)) n before after → Prints (served stored words) n words before after
+  pub serves-refused : 0 < got .refusal → Puts (refusedLine (got .refusal)) 0 n before after → Prints (served stored words) n words before after
   serves-refused l = prints [] (refusedLine (got .refusal)) words (by (got .refusal) l)
     where
       by : (r : ℕ) → 0 < r → servedBy r (got .plan) words [] ≡ record { line = refusedLine r; words = words }
@@ -51,7 +51,7 @@ module _ (stored words : List ℕ) (n : ℕ) (before after : List ℕ) (got : Re
 
   module _ (none : got .refusal ≡ 0) where
     -- too few words are lent
-    pub serves-8 : length words < wide * got .plan .count → Holds (refusedLine 8) n before after → Prints (served stored words) n words before after
+    pub serves-8 : length words < wide * got .plan .count → Puts (refusedLine 8) 0 n before after → Prints (served stored words) n words before after
     serves-8 l = prints [] (refusedLine 8) words (rw (none, le?-fails (wide * got .plan .count) (length words) l))
 
     -- the test plays on the first m of them

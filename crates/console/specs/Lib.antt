@@ -1,4 +1,5 @@
--- What a reader of this crate has to believe (01, "The program"). Definitions only.
+-- What a reader of this crate has to believe (rules 9). Definitions only.
+pub mod Ascii
 pub mod Line
 pub mod Input
 pub mod Run

@@ -1,8 +1,8 @@
--- The line that is printed (01, "The program").
+-- The line that is printed (rules 9.2).
 use mathlib.Core.Path.{_≡_}
 use mathlib.Core.List.{List, [], _∷_, _++_}
 use Prim.Native.Nat.{ℕ, _+_, _^_}
-use lib.ListN.{length, drop}
+use lib.ListN.{length}
 use Rattle.io.specs.Digits.{digits}
 use Rattle.walk.specs.Numbers.{lt?, searchUp}
 use Rattle.bucket_test.specs.Answers.{Values, wordOf, valuesOf}
@@ -14,6 +14,7 @@ use Rattle.bucket_test.specs.declared.Report.{Report}
 use Rattle.bucket_test.specs.declared.Answer.{Answer}
 use Rattle.bucket_test.specs.declared.Answer.the-variants.{Open, Decided, Crossed, Wide, Spent, Refused}
 use Rattle.stored_plan.specs.Little.{putAt}
+use Rattle.console.specs.Ascii.{newline, space}
 
 -- how many digits a number below 10^20 has
 unfoldable pub places : ℕ → ℕ
@@ -25,18 +26,18 @@ decimal n = digits 10 (places n) n
 
 -- `refused`, the number, a newline
 unfoldable pub refusedLine : ℕ → List ℕ
-refusedLine number = wordOf (Refused number) ++ (32 ∷ decimal number) ++ (10 ∷ [])
+refusedLine number = wordOf (Refused number) ++ (space ∷ decimal number) ++ (newline ∷ [])
 
 -- the answer, bucket number, n, S, low, high, a newline
 unfoldable pub valuesLine : Values → List ℕ
 valuesLine v =
     v .word
-    ++ (32 ∷ decimal (v .bucket))
-    ++ (32 ∷ decimal (v .n))
-    ++ (32 ∷ decimal (v .ones))
-    ++ (32 ∷ decimal (v .low))
-    ++ (32 ∷ decimal (v .high))
-    ++ (10 ∷ [])
+    ++ (space ∷ decimal (v .bucket))
+    ++ (space ∷ decimal (v .n))
+    ++ (space ∷ decimal (v .ones))
+    ++ (space ∷ decimal (v .low))
+    ++ (space ∷ decimal (v .high))
+    ++ (newline ∷ [])
 
 abbrev pub lineBy : Answer → Values → List ℕ
 lineBy (Refused r) v = refusedLine (v .number)
@@ -56,12 +57,7 @@ lineAfter p d = lineOf (d .state) (record { answer = d .answer; low = report p (
 
 -- ---- the buffer of a line, every byte of it
 
--- bytes put at a place, and the place behind them
+-- bytes put at a place, the place behind them, and the other bytes as they were
 pub record Puts (bytes : List ℕ) (at next : ℕ) (before after : List ℕ) : Type 0 where
   pub behind : next ≡ at + length bytes
   pub whole : after ≡ putAt at bytes before
-
--- a text of n bytes at the start, and behind it what stood there before
-pub record Holds (text : List ℕ) (n : ℕ) (before after : List ℕ) : Type 0 where
-  pub size : n ≡ length text
-  pub whole : after ≡ text ++ drop n before

@@ -1,5 +1,5 @@
--- The program between what is read and what is printed (01, "The program"). Which draws the system hands over no contract can say: the
--- claims are of some text.
+-- The program between what is read and what is printed (rules 9). Which draws the system hands over no contract can say: the claims are of
+-- some text.
 use mathlib.Core.Path.{_≡_}
 use mathlib.Core.Bool.{Bool, true, false}
 use mathlib.Core.List.{List, _++_}
@@ -12,7 +12,7 @@ use Rattle.plan.specs.declared.Plan.{Plan}
 use Rattle.bucket_test.specs.declared.Drawn.{Drawn}
 use Rattle.stored_plan.specs.Reading.{decoded}
 use Rattle.console.specs.Input.{drawsOf}
-use Rattle.console.specs.Line.{refusedLine, lineAfter, Holds}
+use Rattle.console.specs.Line.{refusedLine, lineAfter, Puts}
 use Rattle.console.specs.Run.{ran}
 
 -- d and words are what the test o comes to when it is fed some text
@@ -42,8 +42,8 @@ servedBy (suc r) p words text = record { line = refusedLine (suc r); words = wor
 unfoldable pub served : List ℕ → List ℕ → List ℕ → Printed
 served stored words text = servedBy (decoded stored .refusal) (decoded stored .plan) words text
 
--- the buffer holds a line of n bytes, and these are the words, for some text
+-- the buffer begins with a line of n bytes, and these are the words, for some text
 pub record Prints (printed : List ℕ → Printed) (n : ℕ) (words before after : List ℕ) : Type 0 where
   pub text : List ℕ
-  pub line-is : Holds (printed text .line) n before after
+  pub line-is : Puts (printed text .line) 0 n before after
   pub words-are : words ≡ printed text .words

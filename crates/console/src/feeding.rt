@@ -1,4 +1,4 @@
-// A chunk of characters as it comes, fed to a test (01, "The program").
+// A chunk of characters as it comes, fed to a test (rules 9.1).
 
 use crate::input::to_draws;
 use crate::running::run;

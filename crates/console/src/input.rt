@@ -1,4 +1,8 @@
-// The characters of standard input as draws (01, "The program").
+// The characters of standard input as draws (rules 9.1).
+
+use crate::ascii::DIGIT_0;
+use crate::ascii::DIGIT_1;
+use crate::ascii::NEWLINE;
 ghost use mathlib.Core.Path.{_≡_};
 ghost use mathlib.Core.List.{_++_};
 ghost use lib.ListN.{length, drop};
@@ -9,17 +13,17 @@ ghost use Rattle.console.specs.Input.{drawOf, drawsOf};
 fn draw_of(c: u8) -> u8
     ensures { λ r. ⌜ r ≡ drawOf c ⌝ }
 {
-    if c == 48 {
+    if c == DIGIT_0 {
         return 0;
     }
-    if c == 49 {
+    if c == DIGIT_1 {
         return 1;
     }
     2
 }
 
 // Turns characters into draws where they stand, newlines skipped, and answers how many there are; what stands behind the draws is kept.
-pub fn to_draws(chunk: &mut [u8]) -> usize
+pub(crate) fn to_draws(chunk: &mut [u8]) -> usize
     ensures { λ r. ⌜ Counts r (now (chunk .exit)) ⌝ }
     ensures { λ r. ⌜
         (r ≡ length (drawsOf (now (chunk .entry))))
@@ -30,7 +34,7 @@ pub fn to_draws(chunk: &mut [u8]) -> usize
     let mut i = 0;
     while i < chunk.len() {
         let c = chunk[i];
-        if c != 10 {
+        if c != NEWLINE {
             chunk[at] = draw_of(c);
             at += 1;
         }

@@ -1,6 +1,7 @@
-// The program but for its write (01, "The program").
-pub mod feeding;
-pub mod input;
+// The program but for its write (rules 9).
+mod ascii;
+mod feeding;
+mod input;
 pub mod line;
 pub mod program;
 mod running;

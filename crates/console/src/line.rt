@@ -1,5 +1,7 @@
-// The line that is printed (01, "The program").
+// The line that is printed (rules 9.2).
 
+use crate::ascii::NEWLINE;
+use crate::ascii::SPACE;
 use bucket_test::Answer;
 use bucket_test::Drawn;
 use bucket_test::Report;
@@ -9,10 +11,11 @@ use plan::Plan;
 ghost use mathlib.Core.Path.{_≡_};
 ghost use mathlib.Core.List.{_∷_};
 ghost use Prim.Native.Nat.{_+_, _≤_};
-ghost use lib.ListN.{length};
+ghost use lib.ListN.{length, take};
 ghost use Rattle.io.specs.Counts.{Counts};
 ghost use Rattle.bucket_test.specs.Answers.{wordOf, bucketOf};
-ghost use Rattle.console.specs.Line.{decimal, refusedLine, lineOf, lineAfter, Puts, Holds};
+ghost use Rattle.console.specs.Ascii.{space};
+ghost use Rattle.console.specs.Line.{decimal, refusedLine, lineOf, lineAfter, Puts};
 
 // Puts bytes at a place of the line and answers the next place.
 fn put(out: &mut [u8], at: usize, bytes: &[u8]) -> usize
@@ -30,27 +33,39 @@ fn put(out: &mut [u8], at: usize, bytes: &[u8]) -> usize
 // A space, and the number in decimal.
 fn put_number(out: &mut [u8], at: usize, number: u32) -> usize
     requires { ⌜ at + 11 ≤ length (now out) ⌝ }
-    ensures { λ r. ⌜ (r ≤ at + 11) × Puts (32 ∷ decimal number) at r (now (out .entry)) (now (out .exit)) ⌝ }
+    ensures { λ r. ⌜ (r ≤ at + 11) × Puts (space ∷ decimal number) at r (now (out .entry)) (now (out .exit)) ⌝ }
 {
     let mut text = [0u8; 20];
     let k = io::decimal(number as u64, &mut text);
-    let next = put(out, at, b" ");
+    let next = put(out, at, &[SPACE]);
     put(out, next, &text[..k])
+}
+
+// A word: the bytes, and how many of them it has.
+struct Word([u8; 7], usize);
+
+fn word_of(a: Answer) -> Word
+    ensures { λ r. ⌜ Counts (r .1) (r .0) × (r .1 ≤ 7) × (take (r .1) (r .0) ≡ wordOf a) ⌝ }
+{
+    match a {
+        Answer::Open => Word(*b"open   ", 4),
+        Answer::Decided(_) => Word(*b"decided", 7),
+        Answer::Crossed => Word(*b"crossed", 7),
+        Answer::Wide => Word(*b"wide   ", 4),
+        Answer::Spent => Word(*b"spent  ", 5),
+        Answer::Refused(_) => Word(*b"refused", 7),
+    }
 }
 
 // The word of an answer begins the line.
 fn put_word(out: &mut [u8], a: Answer) -> usize
     requires { ⌜ 7 ≤ length (now out) ⌝ }
-    ensures { λ r. ⌜ (r ≤ 7) × Holds (wordOf a) r (now (out .entry)) (now (out .exit)) ⌝ }
+    ensures { λ r. ⌜ (r ≤ 7) × Puts (wordOf a) 0 r (now (out .entry)) (now (out .exit)) ⌝ }
 {
-    match a {
-        Answer::Open => put(out, 0, b"open"),
-        Answer::Decided(_) => put(out, 0, b"decided"),
-        Answer::Crossed => put(out, 0, b"crossed"),
-        Answer::Wide => put(out, 0, b"wide"),
-        Answer::Spent => put(out, 0, b"spent"),
-        Answer::Refused(_) => put(out, 0, b"refused"),
-    }
+    let word = word_of(a);
+    let bytes = word.0;
+    let size = word.1;
+    put(out, 0, &bytes[..size])
 }
 
 // The number of the bucket, 0 unless decided.
@@ -68,20 +83,20 @@ fn bucket_of(a: Answer) -> u32
 }
 
 // `refused`, the number, and a newline.
-pub fn refused_line(number: u32, out: &mut [u8; 64]) -> usize
+pub(crate) fn refused_line(number: u32, out: &mut [u8; 64]) -> usize
     ensures { λ r. ⌜ Counts r (now (out .exit)) ⌝ }
-    ensures { λ r. ⌜ (r ≤ 64) × Holds (refusedLine number) r (now (out .entry)) (now (out .exit)) ⌝ }
+    ensures { λ r. ⌜ (r ≤ 64) × Puts (refusedLine number) 0 r (now (out .entry)) (now (out .exit)) ⌝ }
 {
     let a = Answer::Refused(number);
     let at = put_word(out, a);
     let end = put_number(out, at, number);
-    put(out, end, b"\n")
+    put(out, end, &[NEWLINE])
 }
 
 // The line of a report on a state, of any values.
-pub fn line_of(s: State, r: Report, out: &mut [u8; 64]) -> usize
+pub(crate) fn line_of(s: State, r: Report, out: &mut [u8; 64]) -> usize
     ensures { λ n. ⌜ Counts n (now (out .exit)) ⌝ }
-    ensures { λ n. ⌜ (n ≤ 64) × Holds (lineOf s r) n (now (out .entry)) (now (out .exit)) ⌝ }
+    ensures { λ n. ⌜ (n ≤ 64) × Puts (lineOf s r) 0 n (now (out .entry)) (now (out .exit)) ⌝ }
 {
     let a = r.answer;
     if let Answer::Refused(number) = a {
@@ -94,13 +109,13 @@ pub fn line_of(s: State, r: Report, out: &mut [u8; 64]) -> usize
     let at3 = put_number(out, at2, s.ones);
     let at4 = put_number(out, at3, r.low);
     let at5 = put_number(out, at4, r.high);
-    put(out, at5, b"\n")
+    put(out, at5, &[NEWLINE])
 }
 
 // The line of an outcome: its answer, and n, S and interval of its state.
 pub fn last_line(p: Plan, d: Drawn, out: &mut [u8; 64]) -> usize
     ensures { λ n. ⌜ Counts n (now (out .exit)) ⌝ }
-    ensures { λ n. ⌜ (n ≤ 64) × Holds (lineAfter p d) n (now (out .entry)) (now (out .exit)) ⌝ }
+    ensures { λ n. ⌜ (n ≤ 64) × Puts (lineAfter p d) 0 n (now (out .entry)) (now (out .exit)) ⌝ }
 {
     let s = d.state;
     let v = report_on(p, s);

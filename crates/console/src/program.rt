@@ -1,4 +1,4 @@
-// The program but for its write (01, "The program"): a plan, draws as they come, and one line.
+// The program but for its write (rules 9): a plan, draws as they come, and one line.
 
 use crate::feeding::feed;
 use crate::line::last_line;

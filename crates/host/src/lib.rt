@@ -6,12 +6,10 @@ mod states;
 
 use bucket_test::drawing::begin;
 use bucket_test::drawing::draw;
-use bucket_test::drawing::draw_all;
 use bucket_test::drawing::report_on;
 use plan::rules::plan_refusal;
 use plans::plan_in;
 use plans::plan_out;
-use states::drawn_in;
 use states::drawn_out;
 use states::report_out;
 use states::state_in;
@@ -19,11 +17,11 @@ use stored_plan::reading::read_plan;
 use stored_plan::writing::write_plan;
 ghost use mathlib.Core.Path.{_≡_};
 ghost use Rattle.plan.specs.Plan.{planRefusal};
-ghost use Rattle.bucket_test.specs.Draw.{drawnOf, outcomeOf, begun, drawn, report, drawnOn};
+ghost use Rattle.bucket_test.specs.Draw.{drawnOf, begun, drawn, report};
 ghost use Rattle.stored_plan.specs.Reading.{decoded};
 ghost use Rattle.stored_plan.specs.Writing.{written, bytesAfter};
 ghost use Rattle.host.specs.Plans.{planIn, planOut};
-ghost use Rattle.host.specs.States.{stateIn, drawnIn, drawnOut, reportOut};
+ghost use Rattle.host.specs.States.{stateIn, drawnOut, reportOut};
 
 // A plan, with the number of its refusal where one was asked for.
 #[repr(C)]
@@ -102,21 +100,6 @@ pub extern "C" fn host_draw(p: HostPlan, s: HostState, words: &mut [u64], d: u8)
         ⌝ }
 {
     drawn_out(draw(plan_in(p), state_in(s), words, d))
-}
-
-#[no_mangle]
-pub extern "C" fn host_draw_all(
-    p: HostPlan,
-    s: HostState,
-    words: &mut [u64],
-    draws: &[u8],
-) -> HostState
-    ensures { λ r. ⌜
-        (r ≡ drawnOut (drawnOf (drawnOn (planIn p) (outcomeOf (drawnIn s) (now (words .entry))) (now (draws .entry)))))
-        × (now (words .exit) ≡ drawnOn (planIn p) (outcomeOf (drawnIn s) (now (words .entry))) (now (draws .entry)) .words)
-        ⌝ }
-{
-    drawn_out(draw_all(plan_in(p), drawn_in(s), words, draws))
 }
 
 #[no_mangle]

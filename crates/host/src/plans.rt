@@ -5,7 +5,7 @@ use plan::Plan;
 ghost use mathlib.Core.Path.{_≡_};
 ghost use Rattle.host.specs.Plans.{planIn, planOut};
 
-pub fn plan_in(p: HostPlan) -> Plan
+pub(crate) fn plan_in(p: HostPlan) -> Plan
     ensures { λ r. ⌜ r ≡ planIn p ⌝ }
 {
     let thresholds = p.thresholds;
@@ -24,7 +24,7 @@ pub fn plan_in(p: HostPlan) -> Plan
     }
 }
 
-pub fn plan_out(refusal: u32, plan: Plan) -> HostPlan
+pub(crate) fn plan_out(refusal: u32, plan: Plan) -> HostPlan
     ensures { λ r. ⌜ r ≡ planOut refusal plan ⌝ }
 {
     let thresholds = plan.thresholds;

@@ -12,7 +12,7 @@ use walk::Mark;
 use walk::Walked;
 ghost use mathlib.Core.Path.{_≡_};
 ghost use mathlib.Core.List.{map};
-ghost use Rattle.host.specs.States.{markIn, markCase, markStep, answerIn, answerCase, answerNumber, recordIn, recordOut, stateIn, drawnIn, drawnOut, reportOut};
+ghost use Rattle.host.specs.States.{markIn, markCase, markStep, answerCase, answerNumber, recordIn, recordOut, stateIn, drawnOut, reportOut};
 
 fn mark_in(mark: u32, step: u32) -> Mark
     ensures { λ r. ⌜ r ≡ markIn mark step ⌝ }
@@ -41,19 +41,6 @@ fn mark_step(m: Mark) -> u32
         Mark::Open => 0,
         Mark::Above(t) => t,
         Mark::AtMost(t) => t,
-    }
-}
-
-fn answer_in(case: u32, number: u32) -> Answer
-    ensures { λ r. ⌜ r ≡ answerIn case number ⌝ }
-{
-    match case {
-        0 => Answer::Open,
-        1 => Answer::Decided(number),
-        2 => Answer::Crossed,
-        3 => Answer::Wide,
-        4 => Answer::Spent,
-        _ => Answer::Refused(number),
     }
 }
 
@@ -131,7 +118,7 @@ fn records_out(ts: [Threshold; 10]) -> [HostRecord; 10]
     records
 }
 
-pub fn state_in(s: HostState) -> State
+pub(crate) fn state_in(s: HostState) -> State
     ensures { λ r. ⌜ r ≡ stateIn s ⌝ }
 {
     let held = s.records;
@@ -143,16 +130,7 @@ pub fn state_in(s: HostState) -> State
     }
 }
 
-pub fn drawn_in(s: HostState) -> Drawn
-    ensures { λ r. ⌜ r ≡ drawnIn s ⌝ }
-{
-    Drawn {
-        answer: answer_in(s.answer, s.number),
-        state: state_in(s),
-    }
-}
-
-pub fn drawn_out(d: Drawn) -> HostState
+pub(crate) fn drawn_out(d: Drawn) -> HostState
     ensures { λ r. ⌜ r ≡ drawnOut d ⌝ }
 {
     let answer = d.answer;
@@ -168,7 +146,7 @@ pub fn drawn_out(d: Drawn) -> HostState
     }
 }
 
-pub fn report_out(r: Report) -> HostReport
+pub(crate) fn report_out(r: Report) -> HostReport
     ensures { λ h. ⌜ h ≡ reportOut r ⌝ }
 {
     let answer = r.answer;

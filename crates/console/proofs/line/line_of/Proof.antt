@@ -8,7 +8,7 @@ use types.Run.{miss}
 use lib.ListN.{length}
 use lib.Seq.{length-take-le}
 use Rattle.console.specs.Line.{valuesLine, lineOf}
-use Rattle.console.proofs.Lines.{holds-more, values-line}
+use Rattle.console.proofs.Lines.{line-more, values-line}
 use Rattle.console.proofs.line.line_of.Statement.{statement}
 use Rattle.console.proofs.line.line_of.Tie as tie
 
@@ -62,8 +62,8 @@ returns-2 c =
     let p4 = c .before .before .before .before .before .put-number4 .ensures in
     let p5 = c .before .before .before .put-number5 .ensures in
     let q = c .put .ensures in
-    let l2 = holds-more (holds-more (w .1) (rw bucket at (p1 .1))) (p2 .1) in
-    let l6 = holds-more (holds-more (holds-more (holds-more l2 (p3 .1)) (p4 .1)) (p5 .1)) q in
+    let l2 = line-more (line-more (w .1) (rw bucket at (p1 .1))) (p2 .1) in
+    let l6 = line-more (line-more (line-more (line-more l2 (p3 .1)) (p4 .1)) (p5 .1)) q in
     let line = values-line (a .s) (a .r) (λ number e. miss (0 ∷ 1 ∷ 2 ∷ 3 ∷ 4 ∷ []) 5 tt (rw e at keys)) in
     let k : c .put .result ≤ length (c .put .last .0) = omega arith in (
       (k, sym (length-take-le _ _ k)),

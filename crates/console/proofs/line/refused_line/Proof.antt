@@ -6,7 +6,7 @@ use borrow.Author.Needs.{needs}
 use lib.ListN.{length}
 use lib.Seq.{length-take-le}
 use Rattle.console.specs.Line.{refusedLine}
-use Rattle.console.proofs.Lines.{holds-more}
+use Rattle.console.proofs.Lines.{line-more}
 use Rattle.console.proofs.line.refused_line.Statement.{statement}
 use Rattle.console.proofs.line.refused_line.Tie as tie
 
@@ -29,7 +29,7 @@ returns c =
     let p = c .before .before .before .put-number .ensures in
     let q = c .put .ensures in
     let k : c .put .result ≤ length (c .put .last .0) = omega arith in
-    ((k, sym (length-take-le _ _ k)), (omega (arith, w .0, p .0, q .behind), holds-more (holds-more (w .1) (p .1)) q))
+    ((k, sym (length-take-le _ _ k)), (omega (arith, w .0, p .0, q .behind), line-more (line-more (w .1) (p .1)) q))
 
 pub refused-line-spec : {M : Type 1} → statement M
 refused-line-spec =

@@ -1,16 +1,13 @@
--- After i turns the first i records are copied.
-use mathlib.Core.Path.{_≡_, refl, _∙_}
-use Prim.Native.Nat.{_-_, _≤_}
-use native.Mathlib.Omega.{arith}
-use lib.ListN.{replicate}
+-- A loop that copies.
+use Prim.Native.Nat.{_-_}
 use Rattle.host.specs.States.{recordIn}
-use Rattle.host.proofs.Copies.{copied, copy-one, copy-all}
+use Rattle.host.proofs.Copies.{Copied, copied-none, copied-more, copied-all}
 use borrow.Author.Needs.{needs}
 use Rattle.host.proofs.states.records_in.Statement.{statement}
 use Rattle.host.proofs.states.records_in.Tie as tie
 
 abbrev Inv-loop : tie.InvT-loop
-Inv-loop rs records₀ i₀ records i = (i ≤ 10) × (records ≡ copied recordIn i rs records₀)
+Inv-loop rs records₀ i₀ records i = Copied recordIn 10 i rs records₀ records
 
 abbrev μ-loop : tie.MeasureT-loop
 μ-loop rs records₀ i₀ records i = 10 - i
@@ -22,7 +19,7 @@ record-in-requires : tie.Need-record-in-requires Inv-loop μ-loop
 record-in-requires c κs = search needs
 
 loop-holds : tie.Need-loop-holds Inv-loop μ-loop
-loop-holds c = (omega arith, refl)
+loop-holds c = copied-none
 
 mul-record-in : tie.Need-mul-record-in Inv-loop μ-loop
 mul-record-in c = search needs
@@ -46,17 +43,10 @@ loop-less : tie.Need-loop-less Inv-loop μ-loop
 loop-less c = search needs
 
 loop-again : tie.Need-loop-again Inv-loop μ-loop
-loop-again c =
-    let l = c .before .before .before .loop in
-    let given = c .before .before .before .before .before .before .args .t1 in
-    (omega arith, rw (l .inv .1, c .record-in2 .ensures) (copy-one recordIn (l .i) given _ _ (search needs) (omega arith)))
+loop-again c = copied-more _ (c .before .before .before .loop .inv) (search needs) (search needs) (search needs) (c .record-in2 .ensures)
 
 returns : tie.Need-returns Inv-loop μ-loop
-returns c =
-    let l = c .before .loop in
-    let given = c .before .before .before .before .args .t1 in
-    let last : l .i ≡ 10 = omega arith in
-    l .inv .1 ∙ rw last (copy-all recordIn 10 given (replicate 10 (c .before .before .record-in .result)) (search needs) refl)
+returns c = copied-all (c .before .loop .inv) (search needs) (search needs) (search needs)
 
 pub records-in-spec : {M : Type 1} → statement M
 records-in-spec =
