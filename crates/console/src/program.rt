@@ -7,7 +7,9 @@ use crate::running::answer_open;
 use bucket_test::Drawn;
 use bucket_test::drawing::begin;
 use plan::Plan;
+use stored_plan::FORM_LIMIT;
 use stored_plan::reading::read_plan;
+use walk::WIDE;
 ghost use mathlib.Core.Path.{_≡_};
 ghost use mathlib.Core.Bool.{_&&_};
 ghost use lib.ListN.{length};
@@ -89,12 +91,16 @@ pub fn serve(stored: &[u8], input: i32, words: &mut [u64], out: &mut [u8; 64]) -
         return refused_line(got.refusal, out);
     }
     let p = got.plan;
-    let m = 769 * (p.count as usize);
+    let m = WIDE * (p.count as usize);
     if words.len() < m {
         return refused_line(8, out);
     }
     play(p, input, &mut words[0..m], out)
 }
+
+// A buffer for the plan's file: one byte more than the longest plan has is enough to tell a longer file (stored_plan/specs/RoundTrip,
+// `CutReading`).
+pub const PLAN_BUFFER: usize = FORM_LIMIT + 1;
 
 // The bytes of a file at the start of buf, as many as it takes; a file that is missing or cannot be read has none.
 pub fn load(path: &[u8], buf: &mut [u8]) -> usize

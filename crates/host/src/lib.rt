@@ -7,6 +7,8 @@ mod states;
 use bucket_test::drawing::begin;
 use bucket_test::drawing::draw;
 use bucket_test::drawing::report_on;
+use plan::BUCKET_LIMIT;
+use plan::COUNT_LIMIT;
 use plan::rules::plan_refusal;
 use plans::plan_in;
 use plans::plan_out;
@@ -31,10 +33,10 @@ pub struct HostPlan {
     pub buckets: u32,
     pub delay: u32,
     pub horizon: u32,
-    pub thresholds: [u32; 10],
-    pub allowances: [u64; 10],
-    pub left: [u32; 16],
-    pub right: [u32; 16],
+    pub thresholds: [u32; COUNT_LIMIT],
+    pub allowances: [u64; COUNT_LIMIT],
+    pub left: [u32; BUCKET_LIMIT],
+    pub right: [u32; BUCKET_LIMIT],
 }
 
 // A record. Its mark is 0 open, 1 above, 2 at most, at a step.
@@ -56,7 +58,7 @@ pub struct HostState {
     pub number: u32,
     pub n: u32,
     pub ones: u32,
-    pub records: [HostRecord; 10],
+    pub records: [HostRecord; COUNT_LIMIT],
 }
 
 // An answer with its interval.

@@ -8,6 +8,7 @@ use bucket_test::Drawn;
 use bucket_test::Report;
 use bucket_test::State;
 use bucket_test::Threshold;
+use plan::COUNT_LIMIT;
 use walk::Mark;
 use walk::Walked;
 ghost use mathlib.Core.Path.{_≡_};
@@ -98,21 +99,21 @@ fn record_out(t: Threshold) -> HostRecord
     }
 }
 
-fn records_in(rs: [HostRecord; 10]) -> [Threshold; 10]
+fn records_in(rs: [HostRecord; COUNT_LIMIT]) -> [Threshold; COUNT_LIMIT]
     ensures { λ r. ⌜ r ≡ map recordIn rs ⌝ }
 {
-    let mut records = [record_in(rs[0]); 10];
-    for i in 0..10 {
+    let mut records = [record_in(rs[0]); COUNT_LIMIT];
+    for i in 0..COUNT_LIMIT {
         records[i] = record_in(rs[i]);
     }
     records
 }
 
-fn records_out(ts: [Threshold; 10]) -> [HostRecord; 10]
+fn records_out(ts: [Threshold; COUNT_LIMIT]) -> [HostRecord; COUNT_LIMIT]
     ensures { λ r. ⌜ r ≡ map recordOut ts ⌝ }
 {
-    let mut records = [record_out(ts[0]); 10];
-    for i in 0..10 {
+    let mut records = [record_out(ts[0]); COUNT_LIMIT];
+    for i in 0..COUNT_LIMIT {
         records[i] = record_out(ts[i]);
     }
     records

@@ -24,6 +24,8 @@ use crate::little::read_le;
 use crate::little::read_u32;
 use crate::order::first_refusal;
 use crate::order::unless;
+use plan::BUCKET_LIMIT;
+use plan::COUNT_LIMIT;
 use plan::Plan;
 use plan::rules::counts_fit;
 use plan::rules::plan_refusal;
@@ -95,9 +97,9 @@ fn plan_in(bytes: &[u8]) -> Plan
     let k = count as usize;
     let b = buckets as usize;
     let at = bucket_offset(count);
-    let mut thresholds = [0u32; 10];
+    let mut thresholds = [0u32; COUNT_LIMIT];
     fields_in(bytes, HEADER_SIZE, THRESHOLD_SIZE, 4, k, &mut thresholds);
-    let mut allowances = [0u64; 10];
+    let mut allowances = [0u64; COUNT_LIMIT];
     long_fields_in(
         bytes,
         HEADER_SIZE + ALLOWANCE_FIELD,
@@ -106,9 +108,9 @@ fn plan_in(bytes: &[u8]) -> Plan
         k,
         &mut allowances,
     );
-    let mut left = [0u32; 16];
+    let mut left = [0u32; BUCKET_LIMIT];
     fields_in(bytes, at, BUCKET_SIZE, 4, b, &mut left);
-    let mut right = [0u32; 16];
+    let mut right = [0u32; BUCKET_LIMIT];
     fields_in(bytes, at + RIGHT_FIELD, BUCKET_SIZE, 4, b, &mut right);
     Plan {
         count,
@@ -133,10 +135,10 @@ fn refused(r: u32) -> Read
             buckets: 0,
             delay: 0,
             horizon: 0,
-            thresholds: [0; 10],
-            allowances: [0; 10],
-            left: [0; 16],
-            right: [0; 16],
+            thresholds: [0; COUNT_LIMIT],
+            allowances: [0; COUNT_LIMIT],
+            left: [0; BUCKET_LIMIT],
+            right: [0; BUCKET_LIMIT],
         },
     }
 }
