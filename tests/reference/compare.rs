@@ -15,7 +15,6 @@ use std::time::{Duration, Instant};
 
 pub struct Setting {
     pub program: String,
-    pub args: Vec<String>,
     pub seed: u64,
     pub threads: usize,
     pub keep: Option<String>,
@@ -169,7 +168,6 @@ type Watched = Arc<Mutex<Option<(Child, Instant)>>>;
 
 struct Runner<'a> {
     program: &'a Path,
-    args: &'a [String],
     base: &'a Path,
     slot: Watched,
 }
@@ -236,7 +234,6 @@ impl Runner<'_> {
 
     fn start(&self, folder: &Path) -> std::io::Result<Child> {
         Command::new(self.program)
-            .args(self.args)
             .current_dir(folder)
             .stdin(Stdio::piped())
             .stdout(Stdio::piped())
@@ -361,7 +358,7 @@ fn run_all(setting: &Setting, program: &Path, base: &Path) -> (Tally, bool) {
     let mut tally = Tally::default();
     std::thread::scope(|scope| {
         let start = |slot: &Watched| {
-            let runner = Runner { program, args: &setting.args, base, slot: slot.clone() };
+            let runner = Runner { program, base, slot: slot.clone() };
             let shared = &shared;
             scope.spawn(move || work(&runner, setting.seed, shared))
         };

@@ -231,17 +231,6 @@ pub fn draw(p: &Plan, s: &State, words: &mut [u64], d: u8, fault: Fault) -> Stat
     State { answer: settled.answer, number: settled.number, ..next }
 }
 
-/// A run of draws after an outcome: each while the answer is `open`.
-pub fn draw_all(p: &Plan, s: &State, words: &mut [u64], draws: &[u8]) -> State {
-    let mut state = *s;
-    for d in draws {
-        if state.answer == OPEN {
-            state = draw(p, &state, words, *d, Fault::None);
-        }
-    }
-    state
-}
-
 /// What a beginning hands back; the words are changed in place.
 pub fn begin(p: &Plan, words: &mut [u64]) -> State {
     let bad = plan_refusal(p);

@@ -163,18 +163,6 @@ fn compare_mistakes(tally: &mut Tally, scene: &Scene, outcome: &(State, Vec<u64>
     }
 }
 
-/// A run of a few draws, at times with one that is none.
-fn compare_run(tally: &mut Tally, rng: &mut Rng, scene: &Scene) {
-    let draws: Vec<u8> = (0..rng.below(5)).map(|_| rng.pick(&[0, 0, 0, 1, 1, 1, 2])).collect();
-    let (mut words, mut expected_words) = (scene.words.clone(), scene.words.clone());
-    let (answer, number) = rng.pick(&[(OPEN, 0), (OPEN, 0), (OPEN, 0), (DECIDED, 3), (CROSSED, 0), (WIDE, 0), (SPENT, 0), (REFUSED, 9)]);
-    let before = State { answer, number, ..scene.state };
-    let got = host::draw_all(scene.plan, before, &mut words, &draws);
-    let expected = judge::draw_all(&scene.plan, &before, &mut expected_words, &draws);
-    let same = got == expected && words == expected_words;
-    tally.note("draw_all", kind(got.answer, got.number), same, || format!("{draws:?}: {}", shown(scene, &got, &expected, None)));
-}
-
 fn compare_begin(tally: &mut Tally, scene: &Scene) -> (State, Vec<u64>) {
     let (mut words, mut expected_words) = (scene.words.clone(), scene.words.clone());
     let got = host::begin(scene.plan, &mut words);
@@ -291,7 +279,6 @@ fn run_scene(tally: &mut Tally, rng: &mut Rng, good: &Scene) {
             compare_mistakes(tally, &scene, &outcome);
         }
         if rng.chance(1, 6) {
-            compare_run(tally, rng, &scene);
             compare_begin(tally, &scene);
             compare_stored(tally, rng, scene.plan);
         }
@@ -299,10 +286,9 @@ fn run_scene(tally: &mut Tally, rng: &mut Rng, good: &Scene) {
 }
 
 /// The outcomes that must come up, by entry.
-const EXPECTED: [(&str, &str); 8] = [
+const EXPECTED: [(&str, &str); 7] = [
     ("carried draw", "open decided crossed wide spent"),
     ("spoiled draw", "open decided crossed wide spent 1 2 3 4 5 6 8 9 10 11"),
-    ("draw_all", "open decided crossed wide spent 1 2 3 4 5 6 8 9 10 11"),
     ("begin", "open 1 2 3 4 5 6 8"),
     ("report_on", "open decided crossed wide spent 1 2 3 4 5 6"),
     ("plan_refusal", "done 1 2 3 4 5 6"),
