@@ -1,7 +1,9 @@
 //! Runs a program on many plans and inputs and holds its line to the reference's.
 
-use crate::cases::{damaged_case, random_case, Case, Feed, PlanFile, DAMAGED_RUNS, RANDOM_RUNS};
+use crate::case::{Case, Feed, PlanFile};
+use crate::damaged::{damaged_case, DAMAGED_RUNS};
 use crate::examples::{self, Example};
+use crate::random::{random_case, RANDOM_RUNS};
 use crate::sequential::program;
 use crate::tally::{conclude, join, named, sized, Counts};
 use std::fs;

@@ -1,7 +1,8 @@
 //! The examples that fix what the program prints.
 
-use crate::cases::Feed::{Held, Pieces, Whole};
-use crate::cases::{plan_f, two_buckets, Case, Draft, Feed, PlanFile};
+use crate::case::Feed::{Held, Pieces, Whole};
+use crate::case::{Case, Feed, PlanFile};
+use crate::draft::{plan_f, two_buckets, Draft};
 
 pub struct Example {
     pub name: &'static str,

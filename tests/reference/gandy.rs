@@ -3,7 +3,7 @@
 
 use crate::big::Big;
 use crate::boundary::{spending, Quick, Slip};
-use crate::cases::{STAR_ALLOWANCE, STAR_BUCKETS, STAR_THRESHOLDS};
+use crate::draft::{STAR_ALLOWANCE, STAR_BUCKETS, STAR_THRESHOLDS};
 use crate::plan::{MILLION, WHOLE};
 use crate::rng::Rng;
 use crate::weights::Weights;

@@ -1,6 +1,6 @@
 //! The library's entries, by way of the crate `host`.
 
-use crate::cases::Draft;
+use crate::draft::Draft;
 
 /// Any plan; `refusal` is that of a reading.
 #[repr(C)]

@@ -1,14 +1,20 @@
 //! A separately written bucket test, and a runner that compares it with a program.
 
+mod any_plan;
 mod big;
 mod boundary;
-mod cases;
+mod case;
 mod compare;
+mod damage;
+mod damaged;
+mod draft;
+mod draws;
 mod examples;
 mod gandy;
 mod host;
 mod judge;
 mod plan;
+mod random;
 mod rng;
 mod scenes;
 mod selfcheck;

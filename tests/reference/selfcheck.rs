@@ -1,10 +1,11 @@
 //! The reference held to the rules' own examples and facts; no program is needed.
 
 use crate::boundary::{spending, Literal, Quick, Slip};
-use crate::cases::{self, plan_f, Draft};
 use crate::compare::kind_of_line;
+use crate::draft::{plan_f, star_plan, Draft};
 use crate::examples::{self, gap_plan, half_allowance_plan, largest_plan};
 use crate::plan::{read, LARGEST_ALLOWANCE, MILLION, WHOLE};
+use crate::random::{random_case, CROSSED_FROM, CROSSED_RUNS};
 use crate::rng::Rng;
 use crate::sequential::{program, program_with, Answer, Mark, Test};
 use crate::tally::{named, Counts};
@@ -79,7 +80,7 @@ fn numbered(report: &mut Report) {
     report.check("draw 1 to an ended test: 10", ended.take(1) == Err(10));
     let largest = largest_plan();
     report.check("the largest plan is 264 bytes", largest.store().len() == 264 && read(&largest.store()).is_ok());
-    report.check("the star plan keeps the rules", read(&cases::star_plan().store()).is_ok());
+    report.check("the star plan keeps the rules", read(&star_plan().store()).is_ok());
 }
 
 fn printed(report: &mut Report) {
@@ -173,8 +174,8 @@ fn mistakes(report: &mut Report, seed: u64) {
     ];
     let mut shown: Counts<String> = Counts::new();
     let mut runs = 0;
-    for place in cases::CROSSED_FROM..cases::CROSSED_FROM + 1200 {
-        let case = cases::random_case(seed, place);
+    for place in CROSSED_FROM..CROSSED_FROM + 1200 {
+        let case = random_case(seed, place);
         let right = program(case.plan.bytes(), &case.input);
         runs += 1;
         for slip in slips {
@@ -191,13 +192,13 @@ fn mistakes(report: &mut Report, seed: u64) {
 /// The recipe for crossing must lead there.
 fn crossings(report: &mut Report, seed: u64) {
     let mut kinds: Counts<String> = Counts::new();
-    for place in cases::CROSSED_FROM..cases::CROSSED_FROM + cases::CROSSED_RUNS {
-        let case = cases::random_case(seed, place);
+    for place in CROSSED_FROM..CROSSED_FROM + CROSSED_RUNS {
+        let case = random_case(seed, place);
         *kinds.entry(kind_of_line(&program(case.plan.bytes(), &case.input))).or_default() += 1;
     }
     println!("crossing recipe: {kinds:?}");
     let crossed = kinds.get("crossed").copied().unwrap_or(0);
-    report.check("the crossing recipe crosses, half the time or more", 2 * crossed >= cases::CROSSED_RUNS);
+    report.check("the crossing recipe crosses, half the time or more", 2 * crossed >= CROSSED_RUNS);
 }
 
 pub fn run(seed: u64) -> bool {

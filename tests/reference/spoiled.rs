@@ -1,6 +1,6 @@
 //! The library's entries on good and spoiled plans, states, words and draws, each outcome held to `judge`.
 
-use crate::cases::Draft;
+use crate::draft::Draft;
 use crate::examples::{crossing_plan, widening_plan};
 use crate::host::{self, draft_of, plan_of, Plan, State, CROSSED, DECIDED, OPEN, REFUSED, SPENT, WIDE};
 use crate::judge::{self, slacks, Fault, CLAUSES, NEVER_ALONE, NEVER_TAKEN, PART};
