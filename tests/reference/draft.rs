@@ -62,11 +62,12 @@ pub const STAR_BUCKETS: [(u32, u32); 7] = [
     (45_000, 55_000),
 ];
 pub const STAR_ALLOWANCE: u64 = 488_671_834;
+pub const STAR_DELAY: u32 = 1000;
 
 pub fn star_plan() -> Draft {
     Draft {
         thresholds: STAR_THRESHOLDS.iter().map(|a| (*a, STAR_ALLOWANCE)).collect(),
-        delay: 1000,
+        delay: STAR_DELAY,
         horizon: 50_000,
         buckets: STAR_BUCKETS.to_vec(),
     }
