@@ -4,6 +4,8 @@ use crate::boundary::{spending, Literal, Quick, Slip};
 use crate::compare::kind_of_line;
 use crate::draft::{plan_f, star_plan, Draft};
 use crate::examples::{self, gap_plan, half_allowance_plan, largest_plan};
+use crate::host::Record;
+use crate::judge::{self, Fault};
 use crate::plan::{read, LARGEST_ALLOWANCE, MILLION, WHOLE};
 use crate::random::{random_case, CROSSED_FROM, CROSSED_RUNS};
 use crate::rng::Rng;
@@ -93,18 +95,32 @@ fn printed(report: &mut Report) {
     }
 }
 
-/// Literal against quick boundaries, and the facts said to hold at every step.
+/// A record and its words after a step of `judge`, against the literal walk.
+fn judged_same(record: &Record, words: &[u64], literal: &Literal) -> bool {
+    let mass = |count: i64| literal.mass.get(&count).copied().unwrap_or(0);
+    (record.upper as i64, record.lower as i64) == (literal.upper, literal.lower)
+        && (record.over as u128, record.under as u128) == (literal.spent_above, literal.spent_below)
+        && words.iter().zip(literal.lower + 1..).all(|(word, count)| *word as u128 == mass(count))
+}
+
+/// The quick boundaries and those of `judge` against the literal ones, and the facts said to hold at every step.
 fn facts_of(report: &mut Report, at: u128, allowance: u128, delay: u128, steps: u128) -> Quick {
     let mut literal = Literal::begin(at, allowance, delay);
     let mut quick = Quick::begin(at, allowance, delay, Slip::None);
+    let mut record = judge::FIRST;
+    // More than 769, for a walk past a wide step.
+    let mut words = vec![0; steps as usize + 2];
+    words[0] = WHOLE as u64;
     let mut good = true;
     for t in 1..=steps {
         let (upper, lower) = (quick.upper, quick.lower);
         literal.advance();
         quick.advance();
+        judge::walk(at, spending(allowance, delay, t), t as i64, &mut record, &mut words, Fault::None);
         let live: u128 = literal.mass.values().sum();
         let all = live + literal.spent_above + literal.spent_below;
         good &= quick.agrees(&literal)
+            && judged_same(&record, &words, &literal)
             && quick.upper - quick.lower >= 2
             && quick.upper <= upper + 1
             && quick.lower >= lower
