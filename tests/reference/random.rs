@@ -13,10 +13,11 @@ pub const LONGER_RUNS: u64 = 24;
 pub const LONG_RUNS: u64 = 430;
 pub const WIDE_RUNS: u64 = 60;
 pub const CROSSED_RUNS: u64 = 300;
-pub const SHORT_RUNS: u64 = 4600;
+pub const ROUNDING_RUNS: u64 = 300;
+pub const SHORT_RUNS: u64 = 4300;
 /// The place of the first of the crossed ones.
 pub const CROSSED_FROM: u64 = HORIZON_RUNS + LONGER_RUNS + LONG_RUNS + WIDE_RUNS;
-pub const RANDOM_RUNS: u64 = CROSSED_FROM + CROSSED_RUNS + SHORT_RUNS;
+pub const RANDOM_RUNS: u64 = CROSSED_FROM + CROSSED_RUNS + ROUNDING_RUNS + SHORT_RUNS;
 
 fn case(rng: &mut Rng, kind: &'static str, draft: &Draft, draws: &[bool]) -> Case {
     let input = render(rng, draws);
@@ -159,6 +160,20 @@ fn crossed_run(rng: &mut Rng) -> Case {
     case(rng, "crossed", &draft, &draws)
 }
 
+/// So few units to spend that a unit more in some masses moves a boundary, and draws along it up to a step where they meet it.
+fn rounding_run(rng: &mut Rng) -> Case {
+    let at = rng.range(50_000, 950_000) as u32;
+    let draft = Draft {
+        thresholds: vec![(at, rng.scale(2000, 30_000))],
+        delay: rng.scale(1, 30) as u32,
+        horizon: 2000,
+        buckets: two_buckets(at),
+    };
+    let style = Style::Hug { upper: rng.chance(1, 2), release: rng.range(200, 500) };
+    let draws = steer(rng, &draft, 600, style);
+    case(rng, "rounding", &draft, &draws)
+}
+
 fn short_run(rng: &mut Rng, place: u64) -> Case {
     let least = rng.pick(&[1, 1, 1000]);
     let length = if place % 5 == 0 { rng.scale(1, 700) } else { rng.scale(1, 160) };
@@ -195,6 +210,8 @@ pub fn random_case(seed: u64, place: u64) -> Case {
         wide_run(rng)
     } else if within(CROSSED_RUNS) {
         crossed_run(rng)
+    } else if within(ROUNDING_RUNS) {
+        rounding_run(rng)
     } else {
         short_run(rng, rest)
     }
