@@ -32,6 +32,14 @@ pub enum Feed {
     Pieces,
     /// All at once, and no end of input until the program has gone.
     Held,
+    /// Not at all: standard input is closed, and reading it fails.
+    Closed,
+    /// Not at all: reading a folder fails.
+    Folder,
+    /// Not at all: reading what can only be written fails.
+    WriteOnly,
+    /// All at once; then reading fails, as the sender has reset the connection.
+    Reset,
 }
 
 #[derive(Clone, Debug)]

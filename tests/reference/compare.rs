@@ -1,19 +1,17 @@
 //! Runs a program on many plans and inputs and holds its line to the reference's.
 
-use crate::case::{Case, Feed, PlanFile};
+use crate::case::{Case, PlanFile};
 use crate::damaged::{damaged_case, DAMAGED_RUNS};
 use crate::examples::{self, Example};
 use crate::random::{random_case, RANDOM_RUNS};
+use crate::runner::{watch, Runner, Watched};
 use crate::sequential::program;
 use crate::tally::{conclude, join, named, sized, Counts};
 use std::fs;
-use std::io::{Read, Write};
-use std::os::unix::process::ExitStatusExt;
 use std::path::{Path, PathBuf};
-use std::process::{Child, ChildStdin, Command, ExitStatus, Stdio};
 use std::sync::atomic::{AtomicBool, AtomicU64, Ordering};
 use std::sync::{Arc, Mutex};
-use std::time::{Duration, Instant};
+use std::time::Instant;
 
 pub struct Setting {
     pub program: String,
@@ -22,8 +20,6 @@ pub struct Setting {
     pub keep: Option<String>,
 }
 
-/// Longest wait for one line.
-const PATIENCE: Duration = Duration::from_secs(60);
 const SHOWN: usize = 5;
 /// Mismatches after which a program counts as wrong everywhere, and need not be run to the end.
 const MANY: u64 = 200;
@@ -162,98 +158,6 @@ impl Tally {
             out.extend(self.missing());
         }
         out
-    }
-}
-
-/// A child that the watch may end.
-type Watched = Arc<Mutex<Option<(Child, Instant)>>>;
-
-struct Runner<'a> {
-    program: &'a Path,
-    base: &'a Path,
-    slot: Watched,
-}
-
-fn put_plan(plan: &PlanFile, file: &Path) -> std::io::Result<()> {
-    match plan {
-        PlanFile::Stored(bytes) => fs::write(file, bytes),
-        PlanFile::Folder => fs::create_dir(file),
-        PlanFile::Missing => Ok(()),
-    }
-}
-
-/// Writes the input, and hands the pipe back where its end is to be held back. The program may be gone before all is
-/// written: no matter.
-fn feed(case: &Case, mut to: ChildStdin) -> Option<ChildStdin> {
-    if case.feed == Feed::Pieces {
-        for piece in case.input.chunks(case.input.len() / 3 + 1) {
-            if to.write_all(piece).and_then(|_| to.flush()).is_err() {
-                break;
-            }
-            std::thread::sleep(Duration::from_millis(2));
-        }
-    } else {
-        let _ = to.write_all(&case.input);
-    }
-    (case.feed == Feed::Held).then_some(to)
-}
-
-/// The output, or how the program ended badly.
-fn accepted(status: ExitStatus, since: Instant, out: Vec<u8>) -> Result<Vec<u8>, String> {
-    match status.signal() {
-        Some(_) if since.elapsed() >= PATIENCE => Err(format!("no end within {} s", PATIENCE.as_secs())),
-        Some(signal) => Err(format!("ended by signal {signal} after {:?}", String::from_utf8_lossy(&out))),
-        None if !status.success() => Err(format!("{status} after {:?}", String::from_utf8_lossy(&out))),
-        None => Ok(out),
-    }
-}
-
-impl Runner<'_> {
-    /// The program's whole standard output, or what went wrong.
-    fn output(&self, case: &Case, place: u64) -> Result<Vec<u8>, String> {
-        let folder = self.base.join(place.to_string());
-        fs::create_dir(&folder).map_err(|e| format!("temporary folder: {e}"))?;
-        let result = self.output_in(case, &folder);
-        let _ = fs::remove_dir_all(&folder);
-        result
-    }
-
-    fn output_in(&self, case: &Case, folder: &Path) -> Result<Vec<u8>, String> {
-        put_plan(&case.plan, &folder.join("plan")).map_err(|e| e.to_string())?;
-        let mut child = self.start(folder).map_err(|e| format!("cannot start the program: {e}"))?;
-        let to = child.stdin.take().expect("piped");
-        let mut from = child.stdout.take().expect("piped");
-        *self.slot.lock().unwrap() = Some((child, Instant::now()));
-        let held = feed(case, to);
-        let mut out = Vec::new();
-        let read = from.read_to_end(&mut out);
-        drop(held);
-        let (mut child, since) = self.slot.lock().unwrap().take().expect("the child");
-        let status = child.wait().map_err(|e| e.to_string())?;
-        read.map_err(|e| e.to_string())?;
-        accepted(status, since, out)
-    }
-
-    fn start(&self, folder: &Path) -> std::io::Result<Child> {
-        Command::new(self.program)
-            .current_dir(folder)
-            .stdin(Stdio::piped())
-            .stdout(Stdio::piped())
-            .stderr(Stdio::null())
-            .spawn()
-    }
-}
-
-fn watch(slots: Vec<Watched>, done: Arc<AtomicBool>) {
-    while !done.load(Ordering::Relaxed) {
-        std::thread::sleep(Duration::from_millis(200));
-        for slot in &slots {
-            if let Some((child, since)) = slot.lock().unwrap().as_mut() {
-                if since.elapsed() >= PATIENCE {
-                    let _ = child.kill();
-                }
-            }
-        }
     }
 }
 

@@ -18,6 +18,7 @@ mod judge;
 mod plan;
 mod random;
 mod rng;
+mod runner;
 mod scenes;
 mod selfcheck;
 mod sequential;

@@ -9,10 +9,14 @@ use crate::judge::{self, Fault};
 use crate::plan::{read, LARGEST_ALLOWANCE, MILLION, WHOLE};
 use crate::random::{random_case, CROSSED_FROM, CROSSED_RUNS};
 use crate::rng::Rng;
+use crate::runner;
 use crate::sequential::{program, program_with, Answer, Mark, Test};
 use crate::tally::{named, Counts};
 use crate::weights::Weights;
 use std::collections::BTreeMap;
+use std::fs::File;
+use std::io::Read;
+use std::os::fd::OwnedFd;
 use std::time::Instant;
 
 struct Report {
@@ -83,6 +87,22 @@ fn numbered(report: &mut Report) {
     let largest = largest_plan();
     report.check("the largest plan is 264 bytes", largest.store().len() == 264 && read(&largest.store()).is_ok());
     report.check("the star plan keeps the rules", read(&star_plan().store()).is_ok());
+}
+
+/// The bytes of a descriptor up to its end, or up to an error.
+fn read_up(from: OwnedFd) -> (Vec<u8>, bool) {
+    let mut out = Vec::new();
+    let failed = File::from(from).read_to_end(&mut out).is_err();
+    (out, failed)
+}
+
+/// Inputs whose reading is to fail do so, after their bytes.
+fn failing_reads(report: &mut Report) {
+    for e in examples::all() {
+        if let Ok(Some(from)) = runner::failing(&e.case) {
+            report.check(&format!("{}: reading fails", e.name), read_up(from) == (e.case.input, true));
+        }
+    }
 }
 
 fn printed(report: &mut Report) {
@@ -224,6 +244,7 @@ pub fn run(seed: u64) -> bool {
     let mut report = Report { passed: 0, failed: 0 };
     numbered(&mut report);
     printed(&mut report);
+    failing_reads(&mut report);
     facts(&mut report, seed);
     chances(&mut report, seed);
     crossings(&mut report, seed);
