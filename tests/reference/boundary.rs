@@ -101,14 +101,16 @@ pub enum Slip {
     CrossedDecided,
 }
 
+/// `Quick` counts masses in 64 bits, which is faster; the build checks them for overflow.
+const NARROW: u64 = MILLION as u64;
+
 #[inline(always)]
 fn slipped(slip: Slip, stay: u64, rise: u64) -> u64 {
-    const MILLION: u64 = 1_000_000;
     match slip {
-        Slip::RoundDown => (stay + rise) / MILLION,
-        Slip::RoundNearest => (stay + rise + MILLION / 2) / MILLION,
-        Slip::RoundApart => stay.div_ceil(MILLION) + rise.div_ceil(MILLION),
-        _ => (stay + rise).div_ceil(MILLION),
+        Slip::RoundDown => (stay + rise) / NARROW,
+        Slip::RoundNearest => (stay + rise + NARROW / 2) / NARROW,
+        Slip::RoundApart => stay.div_ceil(NARROW) + rise.div_ceil(NARROW),
+        _ => (stay + rise).div_ceil(NARROW),
     }
 }
 
@@ -171,7 +173,7 @@ impl Quick {
         let mut new = Vec::with_capacity(self.mass.len() + 1);
         let mut before = 0;
         for here in &self.mass {
-            new.push(slipped(self.slip, here * (1_000_000 - self.at), before * self.at));
+            new.push(slipped(self.slip, here * (NARROW - self.at), before * self.at));
             before = *here;
         }
         new.push(slipped(self.slip, 0, before * self.at));

@@ -36,7 +36,7 @@ const USAGE: &str = "usage: reference COMMAND
   compare --program PATH [--seed N] [--threads N] [--keep DIR]
                                        the program against the reference
   gandy [--steps N] [--runs N] [--seed N]
-                                       the published rule, by exact fractions
+                                       the library's boundaries and the mean draws beside the published ones
   spoiled [--seed N]                   the library's entries on spoiled states, against the reference";
 
 /// The value after each `--name` word.

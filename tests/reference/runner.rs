@@ -101,11 +101,9 @@ impl Runner<'_> {
     }
 
     fn start(&self, case: &Case, folder: &Path) -> std::io::Result<Child> {
-        let mut command = match case.feed {
-            Feed::Closed => Command::new("sh"),
-            _ => Command::new(self.program),
-        };
+        let mut command = Command::new(self.program);
         if case.feed == Feed::Closed {
+            command = Command::new("sh");
             command.args(["-c", "exec \"$0\" <&-"]).arg(self.program);
         }
         command
