@@ -15,6 +15,8 @@ mod expectation;
 mod gandy;
 mod host;
 mod judge;
+mod lines;
+mod outcomes;
 mod plan;
 mod random;
 mod rng;

@@ -1,11 +1,11 @@
 //! The reference held to the rules' own examples and facts; no program is needed.
 
 use crate::boundary::{spending, Literal, Quick, Slip};
-use crate::compare::kind_of_line;
 use crate::draft::{plan_f, star_plan, Draft};
 use crate::examples::{self, gap_plan, half_allowance_plan, largest_plan};
 use crate::host::Record;
 use crate::judge::{self, Fault};
+use crate::lines::kind_of_line;
 use crate::plan::{read, LARGEST_ALLOWANCE, MILLION, WHOLE};
 use crate::random::{random_case, CROSSED_FROM, CROSSED_RUNS};
 use crate::rng::Rng;
