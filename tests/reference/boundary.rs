@@ -17,11 +17,7 @@ pub fn spending(allowance: u128, delay: u128, n: u128) -> u128 {
 }
 
 fn rounded_up(over: u128) -> u128 {
-    // The narrow division is only faster.
-    let whole = match u64::try_from(over) {
-        Ok(narrow) => (narrow / MILLION as u64) as u128,
-        Err(_) => over / MILLION,
-    };
+    let whole = over / MILLION;
     if whole * MILLION < over {
         whole + 1
     } else {
@@ -105,12 +101,16 @@ pub enum Slip {
     CrossedDecided,
 }
 
-fn slipped(slip: Slip, stay: u128, rise: u128) -> u128 {
+/// `Quick` counts masses in 64 bits, which is faster; the build checks them for overflow.
+const NARROW: u64 = MILLION as u64;
+
+#[inline(always)]
+fn slipped(slip: Slip, stay: u64, rise: u64) -> u64 {
     match slip {
-        Slip::RoundDown => (stay + rise) / MILLION,
-        Slip::RoundNearest => (stay + rise + MILLION / 2) / MILLION,
-        Slip::RoundApart => rounded_up(stay) + rounded_up(rise),
-        _ => rounded_up(stay + rise),
+        Slip::RoundDown => (stay + rise) / NARROW,
+        Slip::RoundNearest => (stay + rise + NARROW / 2) / NARROW,
+        Slip::RoundApart => stay.div_ceil(NARROW) + rise.div_ceil(NARROW),
+        _ => (stay + rise).div_ceil(NARROW),
     }
 }
 
@@ -130,7 +130,7 @@ fn least(from: i64, to: i64, holds: impl Fn(i64) -> bool) -> i64 {
 
 #[derive(Clone)]
 pub struct Quick {
-    at: u128,
+    at: u64,
     allowance: u128,
     delay: u128,
     slip: Slip,
@@ -139,7 +139,7 @@ pub struct Quick {
     pub lower: i64,
     /// The masses from the count `first` on; there are none elsewhere.
     first: i64,
-    mass: Vec<u128>,
+    mass: Vec<u64>,
     pub spent_above: u128,
     pub spent_below: u128,
 }
@@ -147,7 +147,7 @@ pub struct Quick {
 impl Quick {
     pub fn begin(at: u128, allowance: u128, delay: u128, slip: Slip) -> Quick {
         Quick {
-            at,
+            at: at as u64,
             allowance,
             delay,
             slip,
@@ -155,7 +155,7 @@ impl Quick {
             upper: 1,
             lower: -1,
             first: 0,
-            mass: vec![WHOLE],
+            mass: vec![WHOLE as u64],
             spent_above: 0,
             spent_below: 0,
         }
@@ -163,15 +163,21 @@ impl Quick {
 
     pub fn mass(&self, count: i64) -> u128 {
         match usize::try_from(count - self.first) {
-            Ok(place) => self.mass.get(place).copied().unwrap_or(0),
+            Ok(place) => self.mass.get(place).copied().unwrap_or(0) as u128,
             Err(_) => 0,
         }
     }
 
-    fn new_mass(&self, count: i64) -> u128 {
-        let stay = self.mass(count) * (MILLION - self.at);
-        let rise = self.mass(count - 1) * self.at;
-        slipped(self.slip, stay, rise)
+    /// The new masses from the count `first` on.
+    fn spread(&self) -> Vec<u64> {
+        let mut new = Vec::with_capacity(self.mass.len() + 1);
+        let mut before = 0;
+        for here in &self.mass {
+            new.push(slipped(self.slip, here * (NARROW - self.at), before * self.at));
+            before = *here;
+        }
+        new.push(slipped(self.slip, 0, before * self.at));
+        new
     }
 
     pub fn advance(&mut self) {
@@ -179,13 +185,16 @@ impl Quick {
         let t = self.step;
         let limit = spending(self.allowance, self.delay, t as u128);
         let first = self.first;
-        let new: Vec<u128> = (first..=first + self.mass.len() as i64).map(|s| self.new_mass(s)).collect();
-        let mut sums = vec![0];
+        let new = self.spread();
+        let mut sums = Vec::with_capacity(new.len() + 1);
+        let mut sum = 0;
+        sums.push(sum);
         for mass in &new {
-            sums.push(sums[sums.len() - 1] + mass);
+            sum += *mass;
+            sums.push(sum);
         }
-        let under = |j: i64| sums[(j - first).clamp(0, new.len() as i64) as usize];
-        let from = |j: i64| sums[new.len()] - under(j);
+        let under = |j: i64| sums[(j - first).clamp(0, new.len() as i64) as usize] as u128;
+        let from = |j: i64| sum as u128 - under(j);
         // As j rises, the masses from j on fall and those up to j rise.
         self.upper = least(1, t + 1, |j| from(j) + self.spent_above <= limit);
         self.lower = least(-1, t, |j| under(j + 1) + self.spent_below > limit) - 1;

@@ -1,262 +1,28 @@
 //! Runs a program on many plans and inputs and holds its line to the reference's.
 
-use crate::cases::{damaged_case, random_case, Case, Feed, PlanFile, DAMAGED_RUNS, RANDOM_RUNS};
+use crate::damaged::{damaged_case, DAMAGED_RUNS};
 use crate::examples::{self, Example};
+use crate::lines::{show, Mismatch, Run, Tally};
+use crate::random::{random_case, RANDOM_RUNS};
+use crate::runner::{watch, Runner, Watched};
 use crate::sequential::program;
-use crate::tally::{conclude, join, named, sized, Counts};
+use crate::tally::conclude;
 use std::fs;
-use std::io::{Read, Write};
-use std::os::unix::process::ExitStatusExt;
 use std::path::{Path, PathBuf};
-use std::process::{Child, ChildStdin, Command, ExitStatus, Stdio};
 use std::sync::atomic::{AtomicBool, AtomicU64, Ordering};
 use std::sync::{Arc, Mutex};
-use std::time::{Duration, Instant};
+use std::time::Instant;
 
 pub struct Setting {
     pub program: String,
-    pub args: Vec<String>,
     pub seed: u64,
     pub threads: usize,
     pub keep: Option<String>,
 }
 
-/// Longest wait for one line.
-const PATIENCE: Duration = Duration::from_secs(60);
 const SHOWN: usize = 5;
 /// Mismatches after which a program counts as wrong everywhere, and need not be run to the end.
 const MANY: u64 = 200;
-/// Draws that make a run long, and how many such runs there must be.
-const LONG: u64 = 1000;
-const LONG_NEEDED: u64 = 300;
-
-/// All that the program can print first.
-pub const REACHABLE: [&str; 13] = [
-    "open", "decided", "crossed", "wide", "spent", "refused 1", "refused 2", "refused 3", "refused 4",
-    "refused 5", "refused 6", "refused 7", "refused 9",
-];
-
-pub fn kind_of_line(line: &str) -> String {
-    let words: Vec<&str> = line.split_whitespace().collect();
-    match words.first() {
-        Some(&"refused") => words[..2.min(words.len())].join(" "),
-        Some(word) => word.to_string(),
-        None => String::new(),
-    }
-}
-
-/// One run of the program, and the line that it must print.
-struct Run {
-    place: u64,
-    group: &'static str,
-    name: String,
-    case: Case,
-    expected: String,
-}
-
-pub struct Mismatch {
-    run: Run,
-    got: String,
-}
-
-#[derive(Default)]
-pub struct Tally {
-    pub lines: Counts<(&'static str, String)>,
-    pub kinds: Counts<&'static str>,
-    pub thresholds: Counts<u64>,
-    pub buckets: Counts<u64>,
-    pub random: u64,
-    pub damaged: u64,
-    pub examples: u64,
-    pub long: u64,
-    pub draws: u64,
-    pub longest: u64,
-    pub mismatches: Vec<Mismatch>,
-    pub count_mismatches: u64,
-}
-
-impl Tally {
-    fn join(&mut self, other: Tally) {
-        join(&mut self.lines, other.lines);
-        join(&mut self.kinds, other.kinds);
-        join(&mut self.thresholds, other.thresholds);
-        join(&mut self.buckets, other.buckets);
-        self.random += other.random;
-        self.damaged += other.damaged;
-        self.examples += other.examples;
-        self.long += other.long;
-        self.draws += other.draws;
-        self.longest = self.longest.max(other.longest);
-        self.mismatches.extend(other.mismatches);
-        self.count_mismatches += other.count_mismatches;
-    }
-
-    /// Takes in one expected line.
-    fn note(&mut self, run: &Run) {
-        let (case, line) = (&run.case, &run.expected);
-        *self.lines.entry((run.group, kind_of_line(line))).or_default() += 1;
-        *self.kinds.entry(case.kind).or_default() += 1;
-        let taken: u64 = match line.starts_with("refused") {
-            true => 0,
-            false => line.split_whitespace().nth(2).and_then(|n| n.parse().ok()).unwrap_or(0),
-        };
-        self.draws += taken;
-        self.longest = self.longest.max(taken);
-        match run.group {
-            "random" => {
-                self.random += 1;
-                self.long += (taken > LONG) as u64;
-                if let Some(bytes) = case.plan.bytes() {
-                    *self.thresholds.entry(bytes[0] as u64).or_default() += 1;
-                    *self.buckets.entry(bytes[2] as u64).or_default() += 1;
-                }
-            }
-            "damaged" => self.damaged += 1,
-            _ => self.examples += 1,
-        }
-    }
-
-    fn total(&self, kind: &str) -> u64 {
-        self.lines.iter().filter(|((_, k), _)| k == kind).map(|(_, count)| count).sum()
-    }
-
-    fn print(&self) {
-        println!("runs: {} examples, {} random, {} damaged", self.examples, self.random, self.damaged);
-        println!("draws taken: {}; longest run {}; runs over {LONG} draws: {}", self.draws, self.longest, self.long);
-        println!("{:<12}{:>10}{:>10}{:>10}{:>10}", "line", "example", "random", "damaged", "all");
-        for kind in REACHABLE {
-            let of = |group| self.lines.get(&(group, kind.to_string())).copied().unwrap_or(0);
-            let (e, r, d) = (of("example"), of("random"), of("damaged"));
-            println!("{kind:<12}{e:>10}{r:>10}{d:>10}{:>10}", e + r + d);
-        }
-        println!("random plans by thresholds: {}", sized(&self.thresholds));
-        println!("random plans by buckets: {}", sized(&self.buckets));
-        println!("by kind: {}", named(&self.kinds));
-    }
-
-    /// What the set of runs failed to reach.
-    fn missing(&self) -> Vec<String> {
-        let mut out: Vec<String> =
-            REACHABLE.iter().filter(|kind| self.total(kind) == 0).map(|kind| format!("no run printed '{kind}'")).collect();
-        if self.random < 5000 || self.damaged < 20_000 {
-            out.push("too few runs".into());
-        }
-        if self.long < LONG_NEEDED {
-            out.push(format!("only {} runs over {LONG} draws", self.long));
-        }
-        if (1..=10).any(|k| !self.thresholds.contains_key(&k)) || (2..=16).any(|b| !self.buckets.contains_key(&b)) {
-            out.push("a size of plan never came up".into());
-        }
-        out
-    }
-
-    fn faults(&self, given_up: bool) -> Vec<String> {
-        let mut out = Vec::new();
-        if self.count_mismatches > 0 {
-            out.push(format!("{} mismatches", self.count_mismatches));
-        }
-        if given_up {
-            out.push("given up early".into());
-        } else {
-            out.extend(self.missing());
-        }
-        out
-    }
-}
-
-/// A child that the watch may end.
-type Watched = Arc<Mutex<Option<(Child, Instant)>>>;
-
-struct Runner<'a> {
-    program: &'a Path,
-    args: &'a [String],
-    base: &'a Path,
-    slot: Watched,
-}
-
-fn put_plan(plan: &PlanFile, file: &Path) -> std::io::Result<()> {
-    match plan {
-        PlanFile::Stored(bytes) => fs::write(file, bytes),
-        PlanFile::Folder => fs::create_dir(file),
-        PlanFile::Missing => Ok(()),
-    }
-}
-
-/// Writes the input, and hands the pipe back where its end is to be held back. The program may be gone before all is
-/// written: no matter.
-fn feed(case: &Case, mut to: ChildStdin) -> Option<ChildStdin> {
-    if case.feed == Feed::Pieces {
-        for piece in case.input.chunks(case.input.len() / 3 + 1) {
-            if to.write_all(piece).and_then(|_| to.flush()).is_err() {
-                break;
-            }
-            std::thread::sleep(Duration::from_millis(2));
-        }
-    } else {
-        let _ = to.write_all(&case.input);
-    }
-    (case.feed == Feed::Held).then_some(to)
-}
-
-/// The output, or how the program ended badly.
-fn accepted(status: ExitStatus, since: Instant, out: Vec<u8>) -> Result<Vec<u8>, String> {
-    match status.signal() {
-        Some(_) if since.elapsed() >= PATIENCE => Err(format!("no end within {} s", PATIENCE.as_secs())),
-        Some(signal) => Err(format!("ended by signal {signal} after {:?}", String::from_utf8_lossy(&out))),
-        None if !status.success() => Err(format!("{status} after {:?}", String::from_utf8_lossy(&out))),
-        None => Ok(out),
-    }
-}
-
-impl Runner<'_> {
-    /// The program's whole standard output, or what went wrong.
-    fn output(&self, case: &Case, place: u64) -> Result<Vec<u8>, String> {
-        let folder = self.base.join(place.to_string());
-        fs::create_dir(&folder).map_err(|e| format!("temporary folder: {e}"))?;
-        let result = self.output_in(case, &folder);
-        let _ = fs::remove_dir_all(&folder);
-        result
-    }
-
-    fn output_in(&self, case: &Case, folder: &Path) -> Result<Vec<u8>, String> {
-        put_plan(&case.plan, &folder.join("plan")).map_err(|e| e.to_string())?;
-        let mut child = self.start(folder).map_err(|e| format!("cannot start the program: {e}"))?;
-        let to = child.stdin.take().expect("piped");
-        let mut from = child.stdout.take().expect("piped");
-        *self.slot.lock().unwrap() = Some((child, Instant::now()));
-        let held = feed(case, to);
-        let mut out = Vec::new();
-        let read = from.read_to_end(&mut out);
-        drop(held);
-        let (mut child, since) = self.slot.lock().unwrap().take().expect("the child");
-        let status = child.wait().map_err(|e| e.to_string())?;
-        read.map_err(|e| e.to_string())?;
-        accepted(status, since, out)
-    }
-
-    fn start(&self, folder: &Path) -> std::io::Result<Child> {
-        Command::new(self.program)
-            .args(self.args)
-            .current_dir(folder)
-            .stdin(Stdio::piped())
-            .stdout(Stdio::piped())
-            .stderr(Stdio::null())
-            .spawn()
-    }
-}
-
-fn watch(slots: Vec<Watched>, done: Arc<AtomicBool>) {
-    while !done.load(Ordering::Relaxed) {
-        std::thread::sleep(Duration::from_millis(200));
-        for slot in &slots {
-            if let Some((child, since)) = slot.lock().unwrap().as_mut() {
-                if since.elapsed() >= PATIENCE {
-                    let _ = child.kill();
-                }
-            }
-        }
-    }
-}
 
 /// The run at a place in the list; the random ones first, as they take the longest.
 fn run_at(place: u64, seed: u64, examples: &[Example]) -> Option<Run> {
@@ -306,36 +72,6 @@ fn work(runner: &Runner, seed: u64, shared: &Shared) -> Tally {
     tally
 }
 
-fn show(mismatch: &Mismatch, keep: Option<&str>) {
-    let run = &mismatch.run;
-    println!("MISMATCH: {}", run.name);
-    match &run.case.plan {
-        PlanFile::Stored(bytes) => {
-            let hex: Vec<String> = bytes.iter().take(400).map(|b| format!("{b:02x}")).collect();
-            let more = if bytes.len() > 400 { " ..." } else { "" };
-            println!("  plan ({} bytes): {}{more}", bytes.len(), hex.join(""));
-        }
-        PlanFile::Missing => println!("  plan: missing"),
-        PlanFile::Folder => println!("  plan: a folder"),
-    }
-    let input = &run.case.input;
-    let head: String = input.iter().take(3000).map(|b| std::ascii::escape_default(*b).to_string()).collect();
-    let more = if input.len() > 3000 { " ..." } else { "" };
-    println!("  input ({} bytes, {:?}): {head}{more}", input.len(), run.case.feed);
-    println!("  expected: {:?}", run.expected);
-    println!("  program:  {}", mismatch.got);
-    if let Some(folder) = keep {
-        let folder = Path::new(folder).join(run.place.to_string());
-        let kept = fs::create_dir_all(&folder)
-            .and_then(|_| fs::write(folder.join("plan"), run.case.plan.bytes().unwrap_or(&[])))
-            .and_then(|_| fs::write(folder.join("input"), input));
-        match kept {
-            Ok(()) => println!("  kept in {}", folder.display()),
-            Err(e) => println!("  not kept: {e}"),
-        }
-    }
-}
-
 /// The program's path, once the reference itself prints the examples' lines, and a temporary folder.
 fn prepare(setting: &Setting) -> Result<(PathBuf, PathBuf), String> {
     let path = fs::canonicalize(&setting.program).map_err(|e| format!("{}: {e}", setting.program))?;
@@ -361,7 +97,7 @@ fn run_all(setting: &Setting, program: &Path, base: &Path) -> (Tally, bool) {
     let mut tally = Tally::default();
     std::thread::scope(|scope| {
         let start = |slot: &Watched| {
-            let runner = Runner { program, args: &setting.args, base, slot: slot.clone() };
+            let runner = Runner { program, base, slot: slot.clone() };
             let shared = &shared;
             scope.spawn(move || work(&runner, setting.seed, shared))
         };

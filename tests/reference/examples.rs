@@ -1,7 +1,8 @@
 //! The examples that fix what the program prints.
 
-use crate::cases::Feed::{Held, Pieces, Whole};
-use crate::cases::{plan_f, two_buckets, Case, Draft, Feed, PlanFile};
+use crate::case::Feed::{Closed, Folder, Held, Pieces, Reset, Whole, WriteOnly};
+use crate::case::{Case, Feed, PlanFile};
+use crate::draft::{plan_f, two_buckets, Draft};
 
 pub struct Example {
     pub name: &'static str,
@@ -85,7 +86,7 @@ const TURN_ABOUT: [u8; 800] = zeros_then(0, b"10");
 /// Its name, the plan, the input, how that is fed, and the line.
 type Row = (&'static str, fn() -> PlanFile, &'static [u8], Feed, &'static str);
 
-const ROWS: [Row; 32] = [
+const ROWS: [Row; 40] = [
     ("plan F, 11111", f, b"11111", Whole, "decided 2 5 5 50000 1000000\n"),
     ("plan F, 11111 and a newline", f, b"11111\n", Whole, "decided 2 5 5 50000 1000000\n"),
     ("plan F, newlines between", f, b"\n1\n\n1\n1\n1\n1", Whole, "decided 2 5 5 50000 1000000\n"),
@@ -100,12 +101,20 @@ const ROWS: [Row; 32] = [
     ("plan F to 172, input held open", f_to_172, &[b'0'; 172], Held, "spent 0 172 0 0 1000000\n"),
     ("plan F, no draws", f, b"", Whole, "open 0 0 0 0 1000000\n"),
     ("plan F, newlines only", f, b"\n\n\n", Whole, "open 0 0 0 0 1000000\n"),
+    ("plan F, input closed", f, b"", Closed, "open 0 0 0 0 1000000\n"),
+    ("plan F, input a folder", f, b"", Folder, "open 0 0 0 0 1000000\n"),
+    ("plan F, input write-only", f, b"", WriteOnly, "open 0 0 0 0 1000000\n"),
+    ("plan F, no draws, input reset", f, b"", Reset, "open 0 0 0 0 1000000\n"),
+    ("plan F, 1111, input reset", f, b"1111", Reset, "open 0 4 4 0 1000000\n"),
+    ("plan F, 11111, input reset", f, b"11111", Reset, "decided 2 5 5 50000 1000000\n"),
+    ("plan F, draw 2, input reset", f, b"112", Reset, "refused 9\n"),
     ("plan F, draw 2", f, b"2", Whole, "refused 9\n"),
     ("plan F, draw 2, input held open", f, b"112", Held, "refused 9\n"),
     ("plan F, a carriage return", f, b"11\r\n111", Whole, "refused 9\n"),
     ("empty plan", || PlanFile::Stored(vec![]), b"11111", Whole, "refused 7\n"),
     ("missing plan", || PlanFile::Missing, b"11111", Whole, "refused 7\n"),
     ("missing plan, input held open", || PlanFile::Missing, b"", Held, "refused 7\n"),
+    ("missing plan, input closed", || PlanFile::Missing, b"", Closed, "refused 7\n"),
     ("missing plan, draw 2", || PlanFile::Missing, b"2", Whole, "refused 7\n"),
     ("unreadable plan", || PlanFile::Folder, b"11111", Whole, "refused 7\n"),
     ("a plan of 264 bytes", || PlanFile::of(&largest_plan()), b"", Whole, "open 0 0 0 0 1000000\n"),

@@ -1,6 +1,6 @@
 //! The library's entries, by way of the crate `host`.
 
-use crate::cases::Draft;
+use crate::draft::Draft;
 
 /// Any plan; `refusal` is that of a reading.
 #[repr(C)]
@@ -75,7 +75,6 @@ mod entries {
         pub fn host_plan_refusal(p: Plan) -> u32;
         pub fn host_begin(p: Plan, words: *mut u64, len: usize) -> State;
         pub fn host_draw(p: Plan, s: State, words: *mut u64, len: usize, d: u8) -> State;
-        pub fn host_draw_all(p: Plan, s: State, words: *mut u64, len: usize, draws: *const u8, count: usize) -> State;
         pub fn host_report_on(p: Plan, s: State) -> Report;
         pub fn host_read_plan(bytes: *const u8, len: usize) -> Plan;
         pub fn host_write_plan(p: Plan, bytes: *mut u8, len: usize) -> Written;
@@ -92,10 +91,6 @@ pub fn begin(p: Plan, words: &mut [u64]) -> State {
 
 pub fn draw(p: Plan, s: State, words: &mut [u64], d: u8) -> State {
     unsafe { entries::host_draw(p, s, words.as_mut_ptr(), words.len(), d) }
-}
-
-pub fn draw_all(p: Plan, s: State, words: &mut [u64], draws: &[u8]) -> State {
-    unsafe { entries::host_draw_all(p, s, words.as_mut_ptr(), words.len(), draws.as_ptr(), draws.len()) }
 }
 
 pub fn report_on(p: Plan, s: State) -> Report {

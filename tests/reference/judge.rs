@@ -135,8 +135,9 @@ fn spoiled(p: &Plan, s: &State, words: &[u64], fault: Fault) -> bool {
     slacks.any(|(clause, slack)| slack.is_some_and(|slack| slack < limit(clause)))
 }
 
-/// One step of a walk to step t: masses by count, boundaries searched over their printed ranges.
-fn walk(a: u128, limit: u128, t: i64, r: &mut Record, part: &mut [u64], fault: Fault) {
+/// One step of a walk to step t: masses by count, boundaries searched over their printed ranges. The self-check holds it to
+/// the literal search.
+pub fn walk(a: u128, limit: u128, t: i64, r: &mut Record, part: &mut [u64], fault: Fault) {
     let (lower, upper) = (r.lower as i64, r.upper as i64);
     let counts: Vec<i64> = (lower + 1..=upper).collect();
     let old = |s: i64| match lower < s && s < upper {
@@ -231,16 +232,8 @@ pub fn draw(p: &Plan, s: &State, words: &mut [u64], d: u8, fault: Fault) -> Stat
     State { answer: settled.answer, number: settled.number, ..next }
 }
 
-/// A run of draws after an outcome: each while the answer is `open`.
-pub fn draw_all(p: &Plan, s: &State, words: &mut [u64], draws: &[u8]) -> State {
-    let mut state = *s;
-    for d in draws {
-        if state.answer == OPEN {
-            state = draw(p, &state, words, *d, Fault::None);
-        }
-    }
-    state
-}
+/// Step 0.
+pub const FIRST: Record = Record { mark: OPEN, step: 0, lower: -1, upper: 1, over: 0, under: 0 };
 
 /// What a beginning hands back; the words are changed in place.
 pub fn begin(p: &Plan, words: &mut [u64]) -> State {
@@ -254,8 +247,7 @@ pub fn begin(p: &Plan, words: &mut [u64]) -> State {
     for (i, word) in words.iter_mut().enumerate() {
         *word = if i % PART == 0 { WHOLE as u64 } else { 0 };
     }
-    let first = Record { lower: -1, upper: 1, ..Record::default() };
-    let state = State { records: [first; 10], ..State::default() };
+    let state = State { records: [FIRST; 10], ..State::default() };
     let settled = answer(p, &state);
     State { answer: settled.answer, number: settled.number, ..state }
 }

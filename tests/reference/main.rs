@@ -1,33 +1,45 @@
 //! A separately written bucket test, and a runner that compares it with a program.
 
+mod any_plan;
 mod big;
 mod boundary;
-mod cases;
+mod case;
 mod compare;
+mod damage;
+mod damaged;
+mod draft;
+mod draws;
+mod exact;
 mod examples;
+mod expectation;
 mod gandy;
 mod host;
 mod judge;
+mod lines;
+mod outcomes;
 mod plan;
+mod random;
 mod rng;
+mod runner;
 mod scenes;
 mod selfcheck;
 mod sequential;
+mod simulation;
 mod spoiled;
+mod star;
+mod table;
 mod tally;
 mod weights;
 
-use std::io::{Read, Write};
 use std::process::exit;
 
 const USAGE: &str = "usage: reference COMMAND
   check [--seed N]                     the reference against the rules' examples, no program
-  compare --program PATH [--arg WORD]... [--seed N] [--threads N] [--keep DIR]
+  compare --program PATH [--seed N] [--threads N] [--keep DIR]
                                        the program against the reference
   gandy [--steps N] [--runs N] [--seed N]
-                                       the published rule, by exact fractions
-  spoiled [--seed N]                   the library's entries on spoiled states, against the reference
-  program                              behave as the program: file `plan`, draws on standard input";
+                                       the library's boundaries and the mean draws beside the published ones
+  spoiled [--seed N]                   the library's entries on spoiled states, against the reference";
 
 /// The value after each `--name` word.
 pub struct Words(Vec<String>);
@@ -62,18 +74,10 @@ fn compare_program(words: &Words, seed: u64) -> bool {
     };
     compare::run(&compare::Setting {
         program,
-        args: words.all("--arg"),
         seed,
         threads: words.number("--threads", 2).max(1) as usize,
         keep: words.all("--keep").pop(),
     })
-}
-
-fn be_program() {
-    let stored = std::fs::read("plan").ok();
-    let input = std::io::BufReader::new(std::io::stdin()).bytes().map_while(|byte| byte.ok());
-    let line = sequential::program_on(stored.as_deref(), input);
-    std::io::stdout().write_all(line.as_bytes()).expect("standard output");
 }
 
 fn main() {
@@ -89,10 +93,6 @@ fn main() {
         "compare" => compare_program(&words, seed),
         "gandy" => gandy::run(words.number("--steps", 1000), words.number("--runs", 20_000), seed),
         "spoiled" => spoiled::run(seed),
-        "program" => {
-            be_program();
-            true
-        }
         _ => usage(),
     };
     exit(if good { 0 } else { 1 })

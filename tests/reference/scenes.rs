@@ -1,6 +1,6 @@
 //! Good calls of a draw, and ways to spoil them.
 
-use crate::cases::{any_horizon, any_plan};
+use crate::any_plan::{any_horizon, any_plan};
 use crate::host::{plan_of, Plan, Record, State, ABOVE, AT_MOST, OPEN};
 use crate::judge::{live, spending, PART, WORD_LIMIT};
 use crate::plan::{LARGEST_ALLOWANCE, WHOLE};

@@ -1,15 +1,22 @@
 //! The reference held to the rules' own examples and facts; no program is needed.
 
 use crate::boundary::{spending, Literal, Quick, Slip};
-use crate::cases::{self, plan_f, Draft};
-use crate::compare::kind_of_line;
+use crate::draft::{plan_f, star_plan, Draft};
 use crate::examples::{self, gap_plan, half_allowance_plan, largest_plan};
+use crate::host::Record;
+use crate::judge::{self, Fault};
+use crate::lines::kind_of_line;
 use crate::plan::{read, LARGEST_ALLOWANCE, MILLION, WHOLE};
+use crate::random::{random_case, CROSSED_FROM, CROSSED_RUNS};
 use crate::rng::Rng;
+use crate::runner;
 use crate::sequential::{program, program_with, Answer, Mark, Test};
 use crate::tally::{named, Counts};
 use crate::weights::Weights;
 use std::collections::BTreeMap;
+use std::fs::File;
+use std::io::Read;
+use std::os::fd::OwnedFd;
 use std::time::Instant;
 
 struct Report {
@@ -79,7 +86,23 @@ fn numbered(report: &mut Report) {
     report.check("draw 1 to an ended test: 10", ended.take(1) == Err(10));
     let largest = largest_plan();
     report.check("the largest plan is 264 bytes", largest.store().len() == 264 && read(&largest.store()).is_ok());
-    report.check("the star plan keeps the rules", read(&cases::star_plan().store()).is_ok());
+    report.check("the star plan keeps the rules", read(&star_plan().store()).is_ok());
+}
+
+/// The bytes of a descriptor up to its end, or up to an error.
+fn read_up(from: OwnedFd) -> (Vec<u8>, bool) {
+    let mut out = Vec::new();
+    let failed = File::from(from).read_to_end(&mut out).is_err();
+    (out, failed)
+}
+
+/// Inputs whose reading is to fail do so, after their bytes.
+fn failing_reads(report: &mut Report) {
+    for e in examples::all() {
+        if let Ok(Some(from)) = runner::failing(&e.case) {
+            report.check(&format!("{}: reading fails", e.name), read_up(from) == (e.case.input, true));
+        }
+    }
 }
 
 fn printed(report: &mut Report) {
@@ -92,18 +115,32 @@ fn printed(report: &mut Report) {
     }
 }
 
-/// Literal against quick boundaries, and the facts said to hold at every step.
+/// A record and its words after a step of `judge`, against the literal walk.
+fn judged_same(record: &Record, words: &[u64], literal: &Literal) -> bool {
+    let mass = |count: i64| literal.mass.get(&count).copied().unwrap_or(0);
+    (record.upper as i64, record.lower as i64) == (literal.upper, literal.lower)
+        && (record.over as u128, record.under as u128) == (literal.spent_above, literal.spent_below)
+        && words.iter().zip(literal.lower + 1..).all(|(word, count)| *word as u128 == mass(count))
+}
+
+/// The quick boundaries and those of `judge` against the literal ones, and the facts said to hold at every step.
 fn facts_of(report: &mut Report, at: u128, allowance: u128, delay: u128, steps: u128) -> Quick {
     let mut literal = Literal::begin(at, allowance, delay);
     let mut quick = Quick::begin(at, allowance, delay, Slip::None);
+    let mut record = judge::FIRST;
+    // More than 769, for a walk past a wide step.
+    let mut words = vec![0; steps as usize + 2];
+    words[0] = WHOLE as u64;
     let mut good = true;
     for t in 1..=steps {
         let (upper, lower) = (quick.upper, quick.lower);
         literal.advance();
         quick.advance();
+        judge::walk(at, spending(allowance, delay, t), t as i64, &mut record, &mut words, Fault::None);
         let live: u128 = literal.mass.values().sum();
         let all = live + literal.spent_above + literal.spent_below;
         good &= quick.agrees(&literal)
+            && judged_same(&record, &words, &literal)
             && quick.upper - quick.lower >= 2
             && quick.upper <= upper + 1
             && quick.lower >= lower
@@ -161,7 +198,11 @@ fn chances(report: &mut Report, seed: u64) {
     }
 }
 
-/// Each known mistake must change some line of the compared runs.
+/// Runs in which each known mistake is looked for, and in how many it must change the line.
+const MISTAKEN_RUNS: u64 = 1200;
+const SHOWN: u64 = 100;
+
+/// Each known mistake must change many lines of the compared runs.
 fn mistakes(report: &mut Report, seed: u64) {
     let slips = [
         Slip::RoundDown,
@@ -172,32 +213,30 @@ fn mistakes(report: &mut Report, seed: u64) {
         Slip::CrossedDecided,
     ];
     let mut shown: Counts<String> = Counts::new();
-    let mut runs = 0;
-    for place in cases::CROSSED_FROM..cases::CROSSED_FROM + 1200 {
-        let case = cases::random_case(seed, place);
+    for place in CROSSED_FROM..CROSSED_FROM + MISTAKEN_RUNS {
+        let case = random_case(seed, place);
         let right = program(case.plan.bytes(), &case.input);
-        runs += 1;
         for slip in slips {
             let wrong = program_with(case.plan.bytes(), &case.input, slip);
             *shown.entry(format!("{slip:?}")).or_default() += (wrong != right) as u64;
         }
     }
-    println!("mistakes shown by {runs} of the runs: {}", named(&shown));
+    println!("mistakes shown by {MISTAKEN_RUNS} of the runs: {}", named(&shown));
     for (slip, count) in &shown {
-        report.check(&format!("the runs show the mistake {slip}"), *count > 0);
+        report.check(&format!("{SHOWN} runs show the mistake {slip}"), *count >= SHOWN);
     }
 }
 
 /// The recipe for crossing must lead there.
 fn crossings(report: &mut Report, seed: u64) {
     let mut kinds: Counts<String> = Counts::new();
-    for place in cases::CROSSED_FROM..cases::CROSSED_FROM + cases::CROSSED_RUNS {
-        let case = cases::random_case(seed, place);
+    for place in CROSSED_FROM..CROSSED_FROM + CROSSED_RUNS {
+        let case = random_case(seed, place);
         *kinds.entry(kind_of_line(&program(case.plan.bytes(), &case.input))).or_default() += 1;
     }
     println!("crossing recipe: {kinds:?}");
     let crossed = kinds.get("crossed").copied().unwrap_or(0);
-    report.check("the crossing recipe crosses, half the time or more", 2 * crossed >= cases::CROSSED_RUNS);
+    report.check("the crossing recipe crosses, half the time or more", 2 * crossed >= CROSSED_RUNS);
 }
 
 pub fn run(seed: u64) -> bool {
@@ -205,6 +244,7 @@ pub fn run(seed: u64) -> bool {
     let mut report = Report { passed: 0, failed: 0 };
     numbered(&mut report);
     printed(&mut report);
+    failing_reads(&mut report);
     facts(&mut report, seed);
     chances(&mut report, seed);
     crossings(&mut report, seed);

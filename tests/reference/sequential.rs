@@ -162,23 +162,20 @@ impl<'a> Test<'a> {
     }
 }
 
-fn run(stored: Option<&[u8]>, mut input: impl Iterator<Item = u8>, slip: Slip) -> Result<String, u8> {
+fn run(stored: Option<&[u8]>, input: &[u8], slip: Slip) -> Result<String, u8> {
     let plan = read(stored.unwrap_or(&[]))?;
     let mut test = Test::begin(&plan, slip);
-    while !test.answer().ends() {
-        match input.next() {
-            None => break,
-            Some(b'\n') => continue,
-            Some(b'0') => test.take(0)?,
-            Some(b'1') => test.take(1)?,
-            Some(_) => return Err(9),
+    for byte in input.iter().filter(|byte| **byte != b'\n') {
+        if test.answer().ends() {
+            break;
+        }
+        match byte {
+            b'0' => test.take(0)?,
+            b'1' => test.take(1)?,
+            _ => return Err(9),
         };
     }
     Ok(test.line())
-}
-
-fn printed(result: Result<String, u8>) -> String {
-    result.unwrap_or_else(|refusal| format!("refused {refusal}\n"))
 }
 
 /// The program's line for a stored plan (or none) and its input.
@@ -188,10 +185,5 @@ pub fn program(stored: Option<&[u8]>, input: &[u8]) -> String {
 
 /// The line with one mistake made.
 pub fn program_with(stored: Option<&[u8]>, input: &[u8], slip: Slip) -> String {
-    printed(run(stored, input.iter().copied(), slip))
-}
-
-/// The line for an input taken as it comes.
-pub fn program_on(stored: Option<&[u8]>, input: impl Iterator<Item = u8>) -> String {
-    printed(run(stored, input, Slip::None))
+    run(stored, input, slip).unwrap_or_else(|refusal| format!("refused {refusal}\n"))
 }

@@ -1,0 +1,100 @@
+//! Random plans that keep the rules.
+
+use crate::draft::{two_buckets, Draft, LARGEST};
+use crate::rng::Rng;
+
+fn thresholds(rng: &mut Rng, count: usize) -> Vec<u32> {
+    let style = rng.below(6);
+    let centre = rng.range(1, 999_999);
+    let mut out: Vec<u32> = Vec::new();
+    while out.len() < count {
+        let at = match style {
+            0 | 1 => rng.range(1, 999_999),
+            2 => rng.scale(1, 999_999),
+            3 => 1_000_000 - rng.scale(1, 999_999),
+            4 => (centre + rng.below(60)).clamp(1, 999_999),
+            _ => rng.pick(&[1, 2, 500, 1000, 10_000, 50_000, 100_000, 400_000, 500_000, 900_000, 999_998, 999_999]),
+        };
+        if !out.contains(&(at as u32)) {
+            out.push(at as u32);
+        } else if rng.chance(1, 4) {
+            let other = rng.range(1, 999_999) as u32;
+            if !out.contains(&other) {
+                out.push(other);
+            }
+        }
+    }
+    out.sort();
+    out
+}
+
+fn allowances(rng: &mut Rng, count: usize, least: u64) -> Vec<u64> {
+    let style = rng.below(6);
+    let same = rng.scale(least, LARGEST);
+    let one = |rng: &mut Rng| match style {
+        0 | 1 => rng.scale(least, LARGEST),
+        2 => same,
+        3 => rng.scale(least, (least * 1000).min(LARGEST)),
+        4 => rng.range(LARGEST / 2, LARGEST),
+        _ => rng.pick(&[least, least + 1, 4_398_046_511, 488_671_834, LARGEST - 1, LARGEST]),
+    };
+    (0..count).map(|_| one(rng)).collect()
+}
+
+/// Buckets that cover 0 to 1, from the given ends, in any order, overlap as it comes.
+pub fn buckets(rng: &mut Rng, ends: &[u32], count: usize, overlap: bool) -> Vec<(u32, u32)> {
+    let last = ends.len() - 1;
+    let mut out = Vec::new();
+    for _ in 0..60 {
+        out.clear();
+        let mut reached = 0;
+        while reached < last {
+            let left = if overlap && rng.chance(1, 3) { rng.below(reached as u64 + 1) as usize } else { reached };
+            let right = rng.range(reached as u64 + 1, last as u64) as usize;
+            if (left, right) != (0, last) {
+                out.push((ends[left], ends[right]));
+                reached = right;
+            }
+        }
+        if out.len() <= count {
+            break;
+        }
+    }
+    if out.len() > count {
+        out = two_buckets(ends[rng.range(1, last as u64 - 1) as usize]);
+    }
+    while out.len() < count {
+        let left = rng.below(last as u64) as usize;
+        let right = rng.range(left as u64 + 1, last as u64) as usize;
+        let narrow = overlap || rng.chance(1, 2);
+        if (left, right) != (0, last) && narrow {
+            out.push((ends[left], ends[right]));
+        } else {
+            let again = rng.pick(&out);
+            out.push(again);
+        }
+    }
+    rng.shuffle(&mut out);
+    out
+}
+
+pub fn any_horizon(rng: &mut Rng) -> u32 {
+    let most = if rng.chance(1, 3) { 300 } else { 50_000 };
+    rng.scale(1, most) as u32
+}
+
+pub fn any_plan(rng: &mut Rng, least_allowance: u64, horizon: u32) -> Draft {
+    let k = rng.range(1, 10) as usize;
+    let b = rng.range(2, 16) as usize;
+    let mut draft = Draft {
+        thresholds: Vec::new(),
+        delay: rng.scale(1, 65_535) as u32,
+        horizon,
+        buckets: Vec::new(),
+    };
+    let allowances = allowances(rng, k, least_allowance);
+    draft.thresholds = thresholds(rng, k).into_iter().zip(allowances).collect();
+    let overlap = rng.chance(2, 3);
+    draft.buckets = buckets(rng, &draft.ends(), b, overlap);
+    draft
+}

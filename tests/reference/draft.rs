@@ -1,0 +1,74 @@
+//! A plan before it is stored, and the plans that several checks use.
+
+use crate::plan::LARGEST_ALLOWANCE;
+
+/// The largest allowance.
+pub const LARGEST: u64 = LARGEST_ALLOWANCE as u64;
+
+/// A plan before it is stored; nothing in it need keep the rules.
+#[derive(Clone, Debug)]
+pub struct Draft {
+    pub thresholds: Vec<(u32, u64)>,
+    pub delay: u32,
+    pub horizon: u32,
+    pub buckets: Vec<(u32, u32)>,
+}
+
+impl Draft {
+    pub fn store(&self) -> Vec<u8> {
+        let k = self.thresholds.len();
+        let mut out = Vec::new();
+        for half in [k, self.buckets.len(), 16, 16 + 12 * k] {
+            out.extend((half as u16).to_le_bytes());
+        }
+        out.extend(self.delay.to_le_bytes());
+        out.extend(self.horizon.to_le_bytes());
+        for (at, allowance) in &self.thresholds {
+            out.extend(at.to_le_bytes());
+            out.extend(allowance.to_le_bytes());
+        }
+        for (left, right) in &self.buckets {
+            out.extend(left.to_le_bytes());
+            out.extend(right.to_le_bytes());
+        }
+        out
+    }
+
+    pub fn ends(&self) -> Vec<u32> {
+        let mut ends = vec![0];
+        ends.extend(self.thresholds.iter().map(|t| t.0));
+        ends.push(1_000_000);
+        ends
+    }
+}
+
+/// Up to a threshold, and above it.
+pub fn two_buckets(at: u32) -> Vec<(u32, u32)> {
+    vec![(0, at), (at, 1_000_000)]
+}
+
+pub fn plan_f() -> Draft {
+    Draft { thresholds: vec![(50_000, 4_398_046_511)], delay: 1000, horizon: 200, buckets: two_buckets(50_000) }
+}
+
+pub const STAR_THRESHOLDS: [u32; 9] = [500, 1000, 2000, 8000, 10_000, 12_000, 45_000, 50_000, 55_000];
+pub const STAR_BUCKETS: [(u32, u32); 7] = [
+    (0, 1000),
+    (1000, 10_000),
+    (10_000, 50_000),
+    (50_000, 1_000_000),
+    (500, 2000),
+    (8000, 12_000),
+    (45_000, 55_000),
+];
+pub const STAR_ALLOWANCE: u64 = 488_671_834;
+pub const STAR_DELAY: u32 = 1000;
+
+pub fn star_plan() -> Draft {
+    Draft {
+        thresholds: STAR_THRESHOLDS.iter().map(|a| (*a, STAR_ALLOWANCE)).collect(),
+        delay: STAR_DELAY,
+        horizon: 50_000,
+        buckets: STAR_BUCKETS.to_vec(),
+    }
+}
