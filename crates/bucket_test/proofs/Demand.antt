@@ -30,7 +30,7 @@ use Rattle.bucket_test.proofs.Invariant.{markAt, recordAfter, partAfter
 use Rattle.bucket_test.specs.declared.State.{State}
 use Rattle.plan.specs.declared.Plan.{Plan}
 use Rattle.bucket_test.proofs.PartLaws.{words-say}
-use Rattle.bucket_test.proofs.OneStep.{refused-stays}
+use Rattle.bucket_test.proofs.Refusing.{refused-stays}
 
 -- the refusal that is due to a draw: 9, 10 or none
 unfoldable pub due : ℕ → Bool → ℕ

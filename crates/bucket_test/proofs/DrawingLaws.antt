@@ -18,7 +18,7 @@ use Rattle.walk.proofs.SoundnessLaws.{steppable}
 use Rattle.plan.specs.Places.{overTo, joinTo}
 use Rattle.plan.specs.Plan.{thresholdAt, spendingOf, planRefusal, Accepted}
 use Rattle.bucket_test.specs.Words.{partAt, wordsFit}
-use Rattle.bucket_test.specs.Turn.{recordAt, MayTurn, recordSound, recordTurn, partTurn, soundAt, MayTurnAt}
+use Rattle.bucket_test.specs.Turn.{recordAt, MayTurn, recordSound, recordTurn, partTurn, recordSoundAt, MayTurnAt}
 use Rattle.bucket_test.specs.Answers.{lowOf, highOf, answerOf, isEnding}
 use Rattle.bucket_test.specs.Draw.{Outcome, drawnOf, startState, startWords, noState, beginRefusal, begunBy, begun, stateSound, drawRefusal, nextState, nextWords, drawnBy, drawn, report}
 use Rattle.bucket_test.specs.declared.Threshold.{Threshold}
@@ -57,7 +57,7 @@ module _ (p : Plan) (s : State) (ws : List ℕ) (good : planRefusal p ≡ 0) (fi
   unfolding stateSound
   ones-fit = le?-sound (s .ones) (s .n) (and-true (le? (s .ones) (s .n)) _ (and-true (le? (s .n) (p .horizon)) _ sound .1) .0)
 
-  pub sound-at : (i : ℕ) → i < p .count → soundAt p ws (s .n) (s .ones) i (recordAt s i) ≡ true
+  pub sound-at : (i : ℕ) → i < p .count → recordSoundAt p ws (s .n) (s .ones) i (recordAt s i) ≡ true
   unfolding stateSound
   sound-at = all-reads _ (p .count) .0 (and-true (le? (s .ones) (s .n)) _ (and-true (le? (s .n) (p .horizon)) _ sound .1) .1)
 

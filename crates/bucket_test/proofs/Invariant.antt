@@ -18,7 +18,7 @@ use Rattle.walk.proofs.RecordLaws.{markOf, mark-nil, mark-cons}
 use Rattle.plan.specs.Places.{overTo, joinTo}
 use Rattle.plan.specs.Plan.{thresholdAt, spendingOf, Accepted}
 use Rattle.bucket_test.specs.Words.{partAt, wordsFit}
-use Rattle.bucket_test.specs.Turn.{startRecord, noRecord, recordAt, recordTurn, partTurn, soundAt}
+use Rattle.bucket_test.specs.Turn.{startRecord, noRecord, recordAt, recordTurn, partTurn, recordSoundAt}
 use Rattle.bucket_test.specs.Answers.{answerOf, isEnding}
 use Rattle.bucket_test.specs.Draw.{startState, startWords, stateSound, nextState, nextWords}
 use Rattle.plan.proofs.PlaceLaws.{all-reads}
@@ -99,7 +99,7 @@ module _ (p : Plan) where
       unfolding wordsFor
       words-fit = words-say p _ .1 (join-length (partAfter s) wide (p .count) size-at)
 
-      sound-at : (i : ℕ) → i < p .count → soundAt p (wordsFor s) (length s) (ones s) i (recordAt (stateFor s) i) ≡ true
+      sound-at : (i : ℕ) → i < p .count → recordSoundAt p (wordsFor s) (length s) (ones s) i (recordAt (stateFor s) i) ≡ true
       unfolding recordAfter partAfter
       sound-at i l =
           rw (mark-at i l, record-at i l, part-at i l)

@@ -1,8 +1,9 @@
 -- The parts of the words, and places past a count.
 mod PartLaws
 pub mod Ignored
--- A draw to any state.
+-- A draw to any state, and what a refusal hands back.
 pub mod OneStep
+pub mod Refusing
 -- A carried test: one threshold, the whole state, the beginning, demand 3.
 mod OneThreshold
 mod Invariant

@@ -24,9 +24,9 @@ use Rattle.plan.specs.Places.{unless, firstRefusal}
 use Rattle.plan.specs.Plan.{thresholdAt, spendingOf, planRefusal, Accepted}
 use Rattle.bucket_test.specs.Words.{partAt, wordsFit, Stands}
 use Rattle.bucket_test.specs.Turn.{noRecord, recordAt, marked, walkedOn, turnRecord, turnPart}
-use Rattle.bucket_test.specs.Answers.{answerOf, isEnding, refusalOf}
-use Rattle.bucket_test.specs.Draw.{stateSound, drawRefusal, nextState, nextWords, drawnBy, drawn}
-use Rattle.bucket_test.specs.OneStep.{MarkedAt, steppedAt, OneStep, RefusedStaysTheorem, OneStepTheorem}
+use Rattle.bucket_test.specs.Answers.{answerOf, isEnding}
+use Rattle.bucket_test.specs.Draw.{stateSound, drawRefusal, nextState, nextWords}
+use Rattle.bucket_test.specs.OneStep.{MarkedAt, steppedAt, OneStep, OneStepTheorem}
 use Rattle.bucket_test.specs.declared.Threshold.{Threshold}
 use Rattle.bucket_test.specs.declared.State.{State}
 use Rattle.plan.specs.declared.Plan.{Plan}
@@ -36,7 +36,7 @@ use Rattle.plan.proofs.AcceptedLaws.{accepted, threshold-ok, spends}
 use Rattle.bucket_test.proofs.PartLaws.{words-say, join-part}
 use Rattle.bucket_test.proofs.TurningLaws.{part-length, stands}
 use Rattle.bucket_test.proofs.DrawingLaws.{sound-at, drawn-by}
-use Rattle.bucket_test.proofs.AnsweringLaws.{rule-answers, not-over, thin-at}
+use Rattle.bucket_test.proofs.AnsweringLaws.{not-over, thin-at}
 
 -- ---- an open threshold that refusal 11 lets through and that is not wide
 
@@ -162,13 +162,3 @@ pub one-step-holds : OneStepTheorem
 one-step-holds p s ws d e =
     let h = drawn-says p s ws d e in
     rw (drawn-by p s ws d 0 e) (one-step p s ws d (h .0) (h .1) (h .2) (h .3))
-
--- ---- a draw that something refuses
-
-pub refused-stays : RefusedStaysTheorem
-unfolding drawn
-refused-stays p s ws d = go (drawRefusal p s ws d)
-  where
-    go : (r : ℕ) → ¬ (refusalOf (drawnBy r p s ws d .answer) ≡ 0) → (drawnBy r p s ws d .state ≡ s) × (drawnBy r p s ws d .words ≡ ws)
-    go zero e = absurd (e (rule-answers p (nextState p s ws d)))
-    go (suc r) e = (refl, refl)

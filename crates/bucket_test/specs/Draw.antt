@@ -1,4 +1,4 @@
--- A beginning and a draw, of every plan, state, list of words and draw (rules 6.1, 6.2, 8.2).
+-- A beginning and a draw, of every plan, state, list of words and draw (rules 6.1, 6.2, 7.3, 8.2, 8.3).
 use mathlib.Core.Bool.{Bool, not, _&&_}
 use mathlib.Core.List.{List, [], _∷_}
 use Prim.Native.Nat.{ℕ, zero, suc, _+_}
@@ -8,7 +8,7 @@ use Rattle.walk.specs.Record.{startPart}
 use Rattle.plan.specs.Places.{allTo, unless, firstRefusal, overTo, joinTo}
 use Rattle.plan.specs.Plan.{countLimit, planRefusal}
 use Rattle.bucket_test.specs.Words.{wordsFit}
-use Rattle.bucket_test.specs.Turn.{startRecord, noRecord, recordAt, recordTurn, partTurn, soundAt}
+use Rattle.bucket_test.specs.Turn.{startRecord, noRecord, recordAt, recordTurn, partTurn, recordSoundAt}
 use Rattle.bucket_test.specs.Answers.{lowOf, highOf, answerOf, isEnding}
 use Rattle.bucket_test.specs.declared.Threshold.{Threshold}
 use Rattle.bucket_test.specs.declared.State.{State}
@@ -64,7 +64,7 @@ unfoldable pub stateSound : Plan → State → List ℕ → Bool
 stateSound p s words =
     le? (s .n) (p .horizon)
     && (le? (s .ones) (s .n)
-    && allTo (p .count) (λ i. soundAt p words (s .n) (s .ones) i (recordAt s i)))
+    && allTo (p .count) (λ i. recordSoundAt p words (s .n) (s .ones) i (recordAt s i)))
 
 unfoldable pub drawRefusal : Plan → State → List ℕ → ℕ → ℕ
 drawRefusal p s words d =

@@ -1,8 +1,9 @@
--- What a reader of this crate has to believe, in the order of docs/RULES.md. Definitions only; the laws are in proofs/.
+-- What a reader of this crate has to believe: each file after those it rests on, with its sections of docs/RULES.md. Definitions only.
 pub mod Words
 pub mod Turn
 pub mod Answers
 pub mod Draw
+pub mod Refused
 pub mod Ignored
 pub mod OneStep
 pub mod Carried

@@ -14,7 +14,7 @@ use Rattle.walk.specs.declared.Mark.the-variants.{Open}
 use Rattle.plan.specs.Plan.{thresholdAt, spendingOf}
 use Rattle.bucket_test.specs.Words.{partAt, Stands}
 use Rattle.bucket_test.specs.Turn.{recordAt}
-use Rattle.bucket_test.specs.Answers.{answerOf, refusalOf}
+use Rattle.bucket_test.specs.Answers.{answerOf}
 use Rattle.bucket_test.specs.Draw.{Outcome, drawRefusal, drawn}
 use Rattle.bucket_test.specs.declared.State.{State}
 use Rattle.plan.specs.declared.Plan.{Plan}
@@ -26,7 +26,7 @@ pub record MarkedAt (w : Walk) (n S : ℕ) (m : Mark) : Type 0 where
   pub else-open : ((side : Side) → ¬ (Reaches side (w .first) (w .upper) S)) → m ≡ Open
 
 module _ (p : Plan) (s : State) (words : List ℕ) where
-  -- the walk that the record and the part at place i hold, after step n + 1 by rules 1 to 4
+  -- the walk that the record and the part at place i hold, after step n + 1 (rules 3.3 to 3.6)
   unfoldable pub steppedAt : ℕ → Walk
   steppedAt i = stepWalk (thresholdAt p i) (spendingOf p i (suc (s .n))) (suc (s .n)) (asWalk (rowOf (recordAt s i .walked) (partAt i words)))
 
@@ -45,11 +45,6 @@ module _ (p : Plan) (s : State) (words : List ℕ) where
     pub words-size : length (o .words) ≡ wide * p .count
     pub answer-is : o .answer ≡ answerOf p (o .state)
 
--- of every plan, state, list of words and draw: where the draw is refused, nothing changes ..
-abbrev pub RefusedStaysTheorem : Type 0
-RefusedStaysTheorem = (p : Plan) (s : State) (words : List ℕ) (d : ℕ) → ¬ (refusalOf (drawn p s words d .answer) ≡ 0)
-    → (drawn p s words d .state ≡ s) × (drawn p s words d .words ≡ words)
-
--- .. and where nothing refuses it, the outcome is one step
+-- of every plan, state, list of words and draw that nothing refuses
 abbrev pub OneStepTheorem : Type 0
 OneStepTheorem = (p : Plan) (s : State) (words : List ℕ) (d : ℕ) → drawRefusal p s words d ≡ 0 → OneStep p s words d (drawn p s words d)

@@ -1,4 +1,4 @@
--- One threshold in a draw (rules 6.2), and what refusal 11 asks of one.
+-- One threshold in a draw (rules 6.2), and what refusal 11 asks of one (rules 8.4).
 use mathlib.Core.Bool.{Bool, _&&_}
 use mathlib.Core.List.{List}
 use Prim.Native.Nat.{ℕ}
@@ -77,8 +77,8 @@ module _ (p : Plan) (words : List ℕ) (n S i : ℕ) (t : Threshold) where
   abbrev pub partTurn : List ℕ
   partTurn = turnPart (thresholdAt p i) (spendingOf p i n) n S (t .mark) t (partAt i words)
 
-  abbrev pub soundAt : Bool
-  soundAt = recordSound (spendingOf p i n) n S (t .mark) t (partAt i words)
+  abbrev pub recordSoundAt : Bool
+  recordSoundAt = recordSound (spendingOf p i n) n S (t .mark) t (partAt i words)
 
 -- what its turn at draw n asks
 abbrev pub MayTurnAt : Plan → List ℕ → ℕ → ℕ → Threshold → Type 0

@@ -14,7 +14,7 @@ ghost use lib.ListN.{length};
 ghost use Rattle.walk.specs.Units.{wide, horizonLimit};
 ghost use Rattle.plan.specs.Places.{allTo};
 ghost use Rattle.plan.specs.Plan.{planRefusal};
-ghost use Rattle.bucket_test.specs.Turn.{recordAt, recordSound, soundAt};
+ghost use Rattle.bucket_test.specs.Turn.{recordAt, recordSound, recordSoundAt};
 ghost use Rattle.bucket_test.specs.Draw.{stateSound};
 
 // Of any record and any words: they pass refusal 11 after n draws with so many ones, with e = E(n).
@@ -35,7 +35,7 @@ fn record_sound(t: Threshold, part: &[u64], e: u64, n: u32, ones: u32) -> bool
 // Whether each of the first K records passes refusal 11; n is judged before.
 fn records_sound(p: Plan, s: State, words: &[u64]) -> bool
     requires { ⌜ (planRefusal p ≡ 0) × (length (now words) ≡ wide * p .count) × (s .n ≤ horizonLimit) ⌝ }
-    ensures { λ r. ⌜ r ≡ allTo (p .count) (λ i. soundAt p (now (words .entry)) (s .n) (s .ones) i (recordAt s i)) ⌝ }
+    ensures { λ r. ⌜ r ≡ allTo (p .count) (λ i. recordSoundAt p (now (words .entry)) (s .n) (s .ones) i (recordAt s i)) ⌝ }
 {
     let count = p.count as usize;
     for i in 0..count {

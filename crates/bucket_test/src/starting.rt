@@ -1,4 +1,4 @@
-// What a beginning hands on: ten open records and the words of each part (rules 6.1).
+// What a beginning hands on: ten open records and the words of each part (rules 6.1, 8.3).
 
 use crate::State;
 use crate::Threshold;

@@ -12,7 +12,7 @@ use Rattle.bucket_test.specs.declared.Drawn.{Drawn}
 use Rattle.console.specs.Ascii.{newline}
 use Rattle.console.specs.Input.{drawOf, drawsOf}
 use Rattle.console.specs.Run.{ran}
-use Rattle.console.specs.Program.{Taken}
+use Rattle.console.specs.Program.{ComesTo}
 use Rattle.console.proofs.Runs.{run-append}
 
 draws-append : (xs ys : List ℕ) → drawsOf (xs ++ ys) ≡ drawsOf xs ++ drawsOf ys
@@ -32,12 +32,12 @@ fed p o chunk₀ chunk m d words m-is chunk-is o-is =
     let draws : take m chunk ≡ drawsOf chunk₀ = rw (chunk-is, m-is) (take-append-seam (drawsOf chunk₀) (drop (length (drawsOf chunk₀)) chunk₀)) in
     o-is ∙ ap (ran p o) draws
 
-pub taken-none : (p : Plan) (d : Drawn) (words : List ℕ) → Taken p (outcomeOf d words) d words
+pub taken-none : (p : Plan) (d : Drawn) (words : List ℕ) → ComesTo p (outcomeOf d words) d words
 unfolding drawsOf ran
 taken-none p d words = record { text = []; outcome = refl }
 
-pub taken-more : (p : Plan) (o : Outcome) (d d′ : Drawn) (words words′ : List ℕ) → Taken p o d words → Taken p (outcomeOf d words) d′ words′
-    → Taken p o d′ words′
+pub taken-more : (p : Plan) (o : Outcome) (d d′ : Drawn) (words words′ : List ℕ) → ComesTo p o d words → ComesTo p (outcomeOf d words) d′ words′
+    → ComesTo p o d′ words′
 taken-more p o d d′ words words′ t u = record {
   text = t .text ++ u .text;
   outcome = u .outcome ∙ rw (t .outcome, draws-append (t .text) (u .text)) (run-append p o (drawsOf (t .text)) (drawsOf (u .text)));

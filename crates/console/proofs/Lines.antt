@@ -18,7 +18,7 @@ use Rattle.bucket_test.specs.declared.State.{State}
 use Rattle.bucket_test.specs.declared.Report.{Report}
 use Rattle.bucket_test.specs.declared.Answer.{Answer}
 use Rattle.bucket_test.specs.declared.Answer.the-variants.{Open, Decided, Crossed, Wide, Spent, Refused}
-use Rattle.console.specs.Line.{places, decimal, valuesLine, lineBy, lineOf, Puts}
+use Rattle.console.specs.Line.{digitCount, decimal, valuesLine, lineBy, lineOf, Puts}
 
 -- a copy of all the bytes
 pub copied : (bytes before after : List ℕ) (at i : ℕ) → i ≡ length bytes → after ≡ paste before at bytes i
@@ -52,9 +52,9 @@ module _ (n r : ℕ) (f : Fewest 10 1 n r) where
       go true (le x) = x
       go false (gt x) = omega (arith, short m l x)
 
-  fewest-places : n < 10 ^ 20 → r ≡ places n
-  unfolding places
-  fewest-places h =
+  fewest-digits : n < 10 ^ 20 → r ≡ digitCount n
+  unfolding digitCount
+  fewest-digits h =
       sym
       (search-only 19 1 r (λ k. lt? n (10 ^ k)) (f .0) (fewest-le 20 (omega arith) h)
       (λ x. le?-complete (suc n) (10 ^ r) (f .1))
@@ -64,7 +64,7 @@ module _ (n r : ℕ) (f : Fewest 10 1 n r) where
       → (length (take r text) ≤ 10) × (take r text ≡ decimal n)
   unfolding decimal
   decimal-is text h k e =
-      (omega (arith, length-take-le r text k, fewest-le 10 (omega arith) h), rw e (ap (λ (m : ℕ). digits 10 m n) (fewest-places (omega arith))))
+      (omega (arith, length-take-le r text k, fewest-le 10 (omega arith) h), rw e (ap (λ (m : ℕ). digits 10 m n) (fewest-digits (omega arith))))
 
 -- an answer that is no refusal prints its values
 pub values-line : (s : State) (r : Report) → ((number : ℕ) → r .answer ≡ Refused number → ⊥) → lineOf s r ≡ valuesLine (valuesOf s r)

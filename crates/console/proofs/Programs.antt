@@ -14,11 +14,11 @@ use Rattle.stored_plan.specs.declared.Read.{Read}
 use Rattle.console.specs.Run.{ran}
 use Rattle.console.specs.Input.{drawsOf}
 use Rattle.console.specs.Line.{refusedLine, lineAfter, Puts}
-use Rattle.console.specs.Program.{Taken, Printed, played, servedBy, served, Prints}
+use Rattle.console.specs.Program.{ComesTo, Printed, played, servedBy, served, Prints}
 
 -- a test from its beginning to its line
 pub plays : (p : Plan) (words words₁ words₂ : List ℕ) (b last : Drawn) (n : ℕ) (before after : List ℕ) → b ≡ drawnOf (begun p words)
-    → words₁ ≡ begun p words .words → Taken p (outcomeOf b words₁) last words₂ → Puts (lineAfter p last) 0 n before after
+    → words₁ ≡ begun p words .words → ComesTo p (outcomeOf b words₁) last words₂ → Puts (lineAfter p last) 0 n before after
     → Prints (played p words) n words₂ before after
 unfolding played
 plays p words words₁ words₂ b last n before after b-is w-is t h =

@@ -1,8 +1,8 @@
--- A run of draws is the same test as the list: what `ran` hands back is what the draws handed to the test give, one by one; and how a
--- run is cut does not matter.
+-- What `ran` hands back is what the draws that were handed to the test give, one by one; and how a run is cut does not matter.
 use mathlib.Core.Path.{_≡_, refl, sym, ap, _∙_}
 use mathlib.Core.Bool.{Bool, true, false}
 use mathlib.Core.List.{List, [], _∷_, _++_}
+use mathlib.Core.Logic.{_⊎_, inl, inr, ⊎-elim}
 use Prim.Native.Nat.{ℕ, zero, suc, _+_, _≤_, _<_}
 use native.Mathlib.Numerals.{add-one}
 use native.Mathlib.Omega.{arith}
@@ -14,8 +14,8 @@ use Rattle.bucket_test.specs.Answers.{refusalOf}
 use Rattle.bucket_test.specs.Draw.{Outcome, drawnOf, outcomeOf, drawn}
 use Rattle.bucket_test.specs.Carried.{carried, taken}
 use Rattle.bucket_test.proofs.Ignored.{ignored}
-use Rattle.bucket_test.proofs.OneStep.{refused-stays}
-use Rattle.console.specs.Run.{answerOpen, whileOpen, ran, after, RunsTo, RunTheorem, RunIgnoredTheorem}
+use Rattle.bucket_test.proofs.Refusing.{refused-stays}
+use Rattle.console.specs.Run.{answerOpen, whileOpen, ran, followedBy, RunsTo, RunTheorem, RunIgnoredTheorem}
 use Rattle.plan.specs.declared.Plan.{Plan}
 use Rattle.bucket_test.specs.declared.Drawn.{Drawn}
 use Rattle.bucket_test.specs.declared.Answer.{Answer}
@@ -33,24 +33,28 @@ open-is (Refused r) e = clash (sym e)
 not-open : (a : Answer) → answerOpen a ≡ false → ¬ (a ≡ Open)
 not-open a e h = clash (sym (ap answerOpen h) ∙ e)
 
+zero-or-more : (n : ℕ) → (n ≡ 0) ⊎ (0 < n)
+zero-or-more zero = inl refl
+zero-or-more (suc n) = inr (omega arith)
+
 module _ (p : Plan) (words : List ℕ) where
   -- no draw is handed over: there is none, or the answer before is not open
   none-handed : (ds es : List ℕ) → (0 < length es → ¬ (carried p words ds .answer ≡ Open)) → RunsTo p words ds es (carried p words ds)
-  unfolding after
+  unfolding followedBy
   none-handed ds es shut = record {
     handed = 0;
     few = omega arith;
     open-before = λ k l. absurd (omega arith);
     stops = shut;
     outcome = refl;
-    taken-before = λ k l. absurd (omega arith);
+    taken-each = λ k l. absurd (omega arith);
     refused-stays = λ k e. absurd (omega arith);
   }
 
-  -- a draw that is answered `open` was taken; one that is refused changes nothing
-  open-taken : (ds : List ℕ) (d : ℕ) → carried p words (d ∷ ds) .answer ≡ Open → taken p words (d ∷ ds) ≡ le? 1 d ∷ taken p words ds
+  -- a draw that is not refused was taken; one that is changes nothing
+  one-taken : (ds : List ℕ) (d : ℕ) → refusalOf (carried p words (d ∷ ds) .answer) ≡ 0 → taken p words (d ∷ ds) ≡ le? 1 d ∷ taken p words ds
   unfolding taken
-  open-taken ds d e = rw e
+  one-taken ds d e = rw e
 
   first-stays : (ds : List ℕ) (d : ℕ) (o : Outcome) → o ≡ carried p words (d ∷ ds) → ¬ (refusalOf (o .answer) ≡ 0)
       → (o .state ≡ carried p words ds .state) × (o .words ≡ carried p words ds .words)
@@ -61,31 +65,39 @@ module _ (p : Plan) (words : List ℕ) where
 
   went-on : (ds : List ℕ) (d : ℕ) (es : List ℕ) (o : Outcome) → answerOpen (carried p words ds .answer) ≡ true → RunsTo p words (d ∷ ds) es o
       → RunsTo p words ds (d ∷ es) o
-  unfolding after
+  unfolding followedBy
   went-on ds d es o e rest = record {
     handed = suc (rest .handed);
     few = omega (arith, rest .few);
     open-before = before;
     stops = λ l. rest .stops (omega arith);
     outcome = rest .outcome;
-    taken-before = takes;
+    taken-each = takes;
     refused-stays = stays;
   }
     where
-      before : (k : ℕ) → k < suc (rest .handed) → carried p words (after ds (take k (d ∷ es))) .answer ≡ Open
+      before : (k : ℕ) → k < suc (rest .handed) → carried p words (followedBy ds (take k (d ∷ es))) .answer ≡ Open
       before zero l = open-is (carried p words ds .answer) e
       before (suc k) l = rest .open-before k (omega arith)
 
-      takes : (k : ℕ) → suc k < suc (rest .handed)
-          → taken p words (after ds (take (suc k) (d ∷ es))) ≡ le? 1 (getD (d ∷ es) k 0) ∷ taken p words (after ds (take k (d ∷ es)))
-      takes zero l = open-taken ds d (rest .open-before 0 (omega arith))
-      takes (suc k) l = rest .taken-before k (omega arith)
+      -- where d is the only draw that was handed over, the run comes to its outcome
+      only-one : rest .handed ≡ 0 → o ≡ carried p words (d ∷ ds)
+      only-one none = rest .outcome ∙ ap (λ (n : ℕ). carried p words (followedBy (d ∷ ds) (take n es))) none
+
+      -- the answer to d: the run's, where it is the last, else `open`
+      first-fits : (suc 0 ≡ suc (rest .handed) → refusalOf (o .answer) ≡ 0) → refusalOf (carried p words (d ∷ ds) .answer) ≡ 0
+      first-fits f =
+          ⊎-elim (λ e. let none : rest .handed ≡ 0 = e in ap (λ (x : Outcome). refusalOf (x .answer)) (sym (only-one none)) ∙ f (rw none refl))
+          (λ l. ap refusalOf (rest .open-before 0 l)) (zero-or-more (rest .handed))
+
+      takes : (k : ℕ) → k < suc (rest .handed) → (suc k ≡ suc (rest .handed) → refusalOf (o .answer) ≡ 0)
+          → taken p words (followedBy ds (take (suc k) (d ∷ es))) ≡ le? 1 (getD (d ∷ es) k 0) ∷ taken p words (followedBy ds (take k (d ∷ es)))
+      takes zero l f = one-taken ds d (first-fits f)
+      takes (suc k) l f = rest .taken-each k (omega arith) (λ e. f (ap suc e))
 
       stays : (k : ℕ) → suc (rest .handed) ≡ suc k → ¬ (refusalOf (o .answer) ≡ 0)
-          → (o .state ≡ carried p words (after ds (take k (d ∷ es))) .state) × (o .words ≡ carried p words (after ds (take k (d ∷ es))) .words)
-      stays zero h r =
-          let none : rest .handed ≡ 0 = omega arith in
-          first-stays ds d o (rest .outcome ∙ ap (λ (n : ℕ). carried p words (after (d ∷ ds) (take n es))) none) r
+          → (o .state ≡ carried p words (followedBy ds (take k (d ∷ es))) .state) × (o .words ≡ carried p words (followedBy ds (take k (d ∷ es))) .words)
+      stays zero h r = first-stays ds d o (only-one (omega arith)) r
       stays (suc k) h r = rest .refused-stays k (omega arith) r
 
   run-all : (ds es : List ℕ) → RunsTo p words ds es (ran p (carried p words ds) es)

@@ -1,4 +1,4 @@
--- What a reader of this crate has to believe (rules 9). Definitions only.
+-- What a reader of this crate has to believe: each file after those it rests on, with its sections of docs/RULES.md. Definitions only.
 pub mod Ascii
 pub mod Line
 pub mod Input

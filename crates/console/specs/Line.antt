@@ -17,12 +17,12 @@ use Rattle.stored_plan.specs.Little.{putAt}
 use Rattle.console.specs.Ascii.{newline, space}
 
 -- how many digits a number below 10^20 has
-unfoldable pub places : ℕ → ℕ
-places n = searchUp 19 1 (λ k. lt? n (10 ^ k))
+unfoldable pub digitCount : ℕ → ℕ
+digitCount n = searchUp 19 1 (λ k. lt? n (10 ^ k))
 
 -- .. and they, in ASCII, with no zero in front
 unfoldable pub decimal : ℕ → List ℕ
-decimal n = digits 10 (places n) n
+decimal n = digits 10 (digitCount n) n
 
 -- `refused`, the number, a newline
 unfoldable pub refusedLine : ℕ → List ℕ

@@ -16,7 +16,7 @@ use Rattle.console.specs.Line.{refusedLine, lineAfter, Puts}
 use Rattle.console.specs.Run.{ran}
 
 -- d and words are what the test o comes to when it is fed some text
-pub record Taken (p : Plan) (o : Outcome) (d : Drawn) (words : List ℕ) : Type 0 where
+pub record ComesTo (p : Plan) (o : Outcome) (d : Drawn) (words : List ℕ) : Type 0 where
   pub text : List ℕ
   pub outcome : outcomeOf d words ≡ ran p o (drawsOf text)
 

@@ -1,5 +1,5 @@
--- A run of draws (rules 6.4): one after the other from an outcome on, each while the answer is `open`. A run is the program's; what it comes to is
--- what a test carried over the same draws comes to.
+-- A run of draws (rules 6.4): one after the other from an outcome on, each while the answer is `open`. A run is the program's; it comes to what a
+-- test comes to that is carried over those of the draws that were handed to it.
 use mathlib.Core.Path.{_≡_}
 use mathlib.Core.Bool.{Bool, true, false}
 use mathlib.Core.List.{List, [], _∷_}
@@ -31,23 +31,24 @@ unfoldable pub ran : Plan → Outcome → List ℕ → Outcome
 ran p o [] = o
 ran p o (d ∷ ds) = whileOpen (answerOpen (o .answer)) o (ran p (drawn p (o .state) (o .words) d) ds)
 
--- the draws es, in the order of time, after ds; lists that are carried over are latest first
-unfoldable pub after : List ℕ → List ℕ → List ℕ
-after ds [] = ds
-after ds (e ∷ es) = after (e ∷ ds) es
+-- ds, followed by the draws es in the order of time; lists that are carried over are latest first
+unfoldable pub followedBy : List ℕ → List ℕ → List ℕ
+followedBy ds [] = ds
+followedBy ds (e ∷ es) = followedBy (e ∷ ds) es
 
 -- The outcome o of a run of draws es, put to the test carried over ds: so many of them were handed to it, each after an `open` answer, all
 -- of them unless an answer was not, and o is what the test then handed back.
 pub record RunsTo (p : Plan) (words ds es : List ℕ) (o : Outcome) : Type 0 where
   pub handed : ℕ
   pub few : handed ≤ length es
-  pub open-before : (k : ℕ) → k < handed → carried p words (after ds (take k es)) .answer ≡ Open
+  pub open-before : (k : ℕ) → k < handed → carried p words (followedBy ds (take k es)) .answer ≡ Open
   pub stops : handed < length es → ¬ (o .answer ≡ Open)
-  pub outcome : o ≡ carried p words (after ds (take handed es))
-  -- each draw before the last that was handed over was taken, and the last, where it was refused, changed nothing
-  pub taken-before : (k : ℕ) → suc k < handed → taken p words (after ds (take (suc k) es)) ≡ le? 1 (getD es k 0) ∷ taken p words (after ds (take k es))
+  pub outcome : o ≡ carried p words (followedBy ds (take handed es))
+  -- each draw that was handed over was taken, but for the last where it was refused; that one changed nothing
+  pub taken-each : (k : ℕ) → k < handed → (suc k ≡ handed → refusalOf (o .answer) ≡ 0)
+      → taken p words (followedBy ds (take (suc k) es)) ≡ le? 1 (getD es k 0) ∷ taken p words (followedBy ds (take k es))
   pub refused-stays : (k : ℕ) → handed ≡ suc k → ¬ (refusalOf (o .answer) ≡ 0)
-      → (o .state ≡ carried p words (after ds (take k es)) .state) × (o .words ≡ carried p words (after ds (take k es)) .words)
+      → (o .state ≡ carried p words (followedBy ds (take k es)) .state) × (o .words ≡ carried p words (followedBy ds (take k es)) .words)
 
 -- of every plan, all lent words, and every two lists
 abbrev pub RunTheorem : Type 0

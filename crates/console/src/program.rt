@@ -18,7 +18,7 @@ ghost use Rattle.walk.specs.Numbers.{lt?};
 ghost use Rattle.bucket_test.specs.Draw.{outcomeOf};
 ghost use Rattle.console.specs.Input.{drawsOf};
 ghost use Rattle.console.specs.Run.{answerOpen, ran};
-ghost use Rattle.console.specs.Program.{Taken, Prints, played, served};
+ghost use Rattle.console.specs.Program.{ComesTo, Prints, played, served};
 
 // Where a test stands, and whether it takes more.
 struct Fed {
@@ -42,7 +42,7 @@ fn take_chunk(p: Plan, d: Drawn, words: &mut [u64], chunk: &mut [u8]) -> Fed
 
 // One read, and the characters that it gave.
 fn take_some(p: Plan, d: Drawn, input: i32, words: &mut [u64]) -> Fed
-    ensures { λ r. ⌜ Taken p (outcomeOf d (now (words .entry))) (r .drawn) (now (words .exit)) ⌝ }
+    ensures { λ r. ⌜ ComesTo p (outcomeOf d (now (words .entry))) (r .drawn) (now (words .exit)) ⌝ }
 {
     let mut chunk = [0u8; 4096];
     let got = libc::read(input, &mut chunk);
@@ -53,7 +53,7 @@ fn take_some(p: Plan, d: Drawn, input: i32, words: &mut [u64]) -> Fed
 // Reads up to an answer that is not `open`, or the end of input. A proved loop has to end: it counts its turns down, from a number that no
 // run uses up.
 fn take_all(p: Plan, d: Drawn, input: i32, words: &mut [u64]) -> Drawn
-    ensures { λ r. ⌜ Taken p (outcomeOf d (now (words .entry))) r (now (words .exit)) ⌝ }
+    ensures { λ r. ⌜ ComesTo p (outcomeOf d (now (words .entry))) r (now (words .exit)) ⌝ }
 {
     let first = d.answer;
     let mut drawn = d;

@@ -1,4 +1,4 @@
--- Laws of the tests by place and of the refusals in order (specs/Tests): what each says, from what its parts say.
+-- Laws of the tests by place and of the refusals in order (specs/Places): what each says, from what its parts say.
 use mathlib.Core.Path.{_≡_, refl, sym, _∙_}
 use mathlib.Core.Bool.{Bool, true, false, not, _&&_, _||_}
 use mathlib.Core.List.{List, [], _∷_}

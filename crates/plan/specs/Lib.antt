@@ -1,4 +1,4 @@
--- What a reader of this crate has to believe, in the order of docs/RULES.md. Definitions only; the laws are in proofs/.
+-- What a reader of this crate has to believe: each file after those it rests on, with its sections of docs/RULES.md. Definitions only.
 pub mod Places
 pub mod Plan
 pub mod SameCounted

@@ -82,8 +82,8 @@ module _ (p : Plan) where
   unfoldable pub rule5 : Bool
   rule5 = allTo (p .buckets) bucketFits
 
-  -- 6: every p from 0 to 1 lies in some bucket. As a test: some bucket begins at 0, and at each right end below 1,000,000 some bucket
-  -- goes on. proofs/Cover shows that the test passes exactly when every fraction lies in some bucket (`Covered`, below).
+  -- 6: every p from 0 to 1 lies in some bucket. As a test: some bucket begins at 0, and what lies just above each right end
+  -- below 1,000,000 is covered. proofs/Cover shows that the test passes exactly when every fraction lies in some bucket (`Covered`, below).
   unfoldable pub coveredAbove : ℕ → Bool
   coveredAbove e = le? million e || anyTo (p .buckets) (λ i. le? (leftAt i) e && lt? e (rightAt i))
 
@@ -95,12 +95,12 @@ module _ (p : Plan) where
   unfoldable pub planRefusal : ℕ
   planRefusal = firstRefusal (unless rule1 1 ∷ unless rule2 2 ∷ unless rule3 3 ∷ unless rule4 4 ∷ unless rule5 5 ∷ unless rule6 6 ∷ [])
 
-  -- ---- the rules in words. proofs/Rules shows that a plan has no refusal exactly when it keeps them.
+  -- ---- the rules in words. proofs/AcceptedLaws shows that a plan has no refusal exactly when it keeps them.
 
   abbrev pub Permitted : ℕ → Type 0
   Permitted e = (e ≡ 0) ⊎ ((e ≡ million) ⊎ ((i : ℕ) × (i < p .count) × (e ≡ thresholdAt i)))
 
-  -- the bucket at place j holds the fraction x / y: above its left end, which 0 includes, and up to and including its right end
+  -- the bucket at place j holds the fraction x / y: above its left end, or at it where that is 0, and up to its right end
   abbrev pub Holds : ℕ → ℕ → ℕ → Type 0
   Holds x y j = ((leftAt j * y < x * million) ⊎ (leftAt j ≡ 0)) × (x * million ≤ rightAt j * y)
 

@@ -10,7 +10,7 @@ use Rattle.plan.specs.Places.{joinTo}
 use Rattle.plan.specs.Plan.{countLimit, bucketLimit}
 use Rattle.plan.proofs.PlaceLists.{join-cong}
 use Rattle.stored_plan.specs.Little.{toLE, field, column, Bytes}
-use Rattle.stored_plan.specs.Form.{headerSize, thresholdSize, bucketSize, bucketOffset, formSize}
+use Rattle.stored_plan.specs.Form.{headerSize, thresholdEntrySize, bucketEntrySize, bucketOffset, formSize}
 use Rattle.stored_plan.specs.Form.{pair, header, thresholdEntries, bucketEntries, encoded}
 use Rattle.stored_plan.specs.Reading.{filled, countIn, bucketsIn, planIn, readRefusal}
 use Rattle.stored_plan.proofs.LittleLaws.{to-field}
@@ -91,13 +91,13 @@ module _ (bytes : List ℕ) where
           let bucket-part = pair-part bucketLimit bc (bucketOffset kc) 4 4 b (λ j l. omega arith) in
           rw (
             header-part,
-            join-cong kc _ (λ i. part (headerSize + thresholdSize * i) thresholdSize) entry-part,
-            join-cong bc _ (λ j. part (bucketOffset kc + bucketSize * j) bucketSize) bucket-part,
-            parts-join headerSize thresholdSize kc,
-            parts-join (bucketOffset kc) bucketSize bc,
-            part-join headerSize (thresholdSize * kc) (bucketSize * bc),
-            part-join 0 headerSize (thresholdSize * kc + bucketSize * bc),
-          ) (part-all (headerSize + (thresholdSize * kc + bucketSize * bc)) (omega arith))
+            join-cong kc _ (λ i. part (headerSize + thresholdEntrySize * i) thresholdEntrySize) entry-part,
+            join-cong bc _ (λ j. part (bucketOffset kc + bucketEntrySize * j) bucketEntrySize) bucket-part,
+            parts-join headerSize thresholdEntrySize kc,
+            parts-join (bucketOffset kc) bucketEntrySize bc,
+            part-join headerSize (thresholdEntrySize * kc) (bucketEntrySize * bc),
+            part-join 0 headerSize (thresholdEntrySize * kc + bucketEntrySize * bc),
+          ) (part-all (headerSize + (thresholdEntrySize * kc + bucketEntrySize * bc)) (omega arith))
 
     pub bytes-back : readRefusal bytes ≡ 0 → encoded (planIn bytes) ≡ bytes
     bytes-back e = let s = readable bytes .0 e in form-whole (s .counts .0 .1) (s .counts .1 .1) (s .offsets) (s .sized)

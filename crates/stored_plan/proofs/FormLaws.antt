@@ -12,7 +12,7 @@ use Rattle.plan.specs.declared.Plan.{Plan}
 use Rattle.plan.proofs.PlaceLists.{join-length}
 use Rattle.plan.proofs.AcceptedLaws.{Counted}
 use Rattle.stored_plan.specs.Little.{toLE, field, putAt}
-use Rattle.stored_plan.specs.Form.{headerSize, thresholdSize, bucketSize, bucketOffset, formSize, formLimit}
+use Rattle.stored_plan.specs.Form.{headerSize, thresholdEntrySize, bucketEntrySize, bucketOffset, formSize, formLimit}
 use Rattle.stored_plan.specs.Form.{pair, header, thresholdEntries, bucketEntries, encoded}
 use Rattle.stored_plan.proofs.LittleLaws.{to-length, field-left, field-right}
 use Rattle.stored_plan.proofs.Putting.{put-none, put-first, then}
@@ -78,18 +78,18 @@ module _ (p : Plan) where
   unfolding header
   header-length = simp (length-append, to-length)
 
-  pub thresholds-length : length (thresholdEntries p) ≡ thresholdSize * p .count
+  pub thresholds-length : length (thresholdEntries p) ≡ thresholdEntrySize * p .count
   unfolding thresholdEntries
-  thresholds-length = join-size _ thresholdSize (pair-length 4 8 (p .thresholds) (p .allowances)) (p .count)
+  thresholds-length = join-size _ thresholdEntrySize (pair-length 4 8 (p .thresholds) (p .allowances)) (p .count)
 
   -- the parts before the buckets
   pub front-length : length (header p ++ thresholdEntries p) ≡ bucketOffset (p .count)
   unfolding bucketOffset
   front-length = omega (arith, length-append (header p) (thresholdEntries p), header-length, thresholds-length)
 
-  buckets-length : length (bucketEntries p) ≡ bucketSize * p .buckets
+  buckets-length : length (bucketEntries p) ≡ bucketEntrySize * p .buckets
   unfolding bucketEntries
-  buckets-length = join-size _ bucketSize (pair-length 4 4 (p .left) (p .right)) (p .buckets)
+  buckets-length = join-size _ bucketEntrySize (pair-length 4 4 (p .left) (p .right)) (p .buckets)
 
   pub encoded-length : length (encoded p) ≡ formSize (p .count) (p .buckets)
   unfolding encoded formSize bucketOffset

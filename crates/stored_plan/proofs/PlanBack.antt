@@ -11,10 +11,10 @@ use Rattle.plan.proofs.AcceptedLaws.{accepted, permitted-le}
 use Rattle.plan.proofs.SameCountedLaws.{same-rules}
 use Rattle.stored_plan.specs.Little.{toLE, field}
 use Rattle.stored_plan.specs.Form.{headerSize, countField, bucketsField, thresholdOffsetField, bucketOffsetField, delayField, horizonField}
-use Rattle.stored_plan.specs.Form.{thresholdSize, allowanceField, bucketSize, rightField, bucketOffset}
+use Rattle.stored_plan.specs.Form.{thresholdEntrySize, allowanceField, bucketEntrySize, rightField, bucketOffset}
 use Rattle.stored_plan.specs.Form.{pair, header, thresholdEntries, bucketEntries, encoded}
 use Rattle.stored_plan.specs.Reading.{filled, countIn, bucketsIn, planIn, readRefusal}
-use Rattle.stored_plan.specs.RoundTrip.{Same}
+use Rattle.stored_plan.specs.RoundTrip.{SamePlan}
 use Rattle.stored_plan.proofs.LittleLaws.{field-right, field-next, field-here, field-last}
 use Rattle.stored_plan.proofs.FormLaws.{pair-length, join-field, header-length, front-length, encoded-length, header-fits}
 use Rattle.stored_plan.proofs.ReadingLaws.{filled-length, filled-get, filled-past, filled-cong}
@@ -35,7 +35,7 @@ counted p = record {
 
 -- ---- it is the same plan
 
-pub same : (p : Plan) → p .count ≤ countLimit → p .buckets ≤ bucketLimit → Same p (counted p)
+pub same : (p : Plan) → p .count ≤ countLimit → p .buckets ≤ bucketLimit → SamePlan p (counted p)
 unfolding counted
 same p k b = record {
   counted-same = record {
@@ -95,44 +95,44 @@ module _ (p : Plan) (a : Accepted p) where
       ∙ field-here 4 (p .horizon) _ (omega (arith, a .horizon-range .1)))
 
   -- a field of entry i, of bucket j
-  in-entry : (i width o at : ℕ) → i < p .count → o + width ≤ thresholdSize → at ≡ headerSize + (thresholdSize * i + o)
+  in-entry : (i width o at : ℕ) → i < p .count → o + width ≤ thresholdEntrySize → at ≡ headerSize + (thresholdEntrySize * i + o)
       → field width at (encoded p) ≡ field width o (pair 4 8 (p .thresholds) (p .allowances) i)
   unfolding encoded thresholdEntries
   in-entry i width o at l h e =
       rw e
-      (field-right width (thresholdSize * i + o) (header p) (thresholdEntries p ++ bucketEntries p) headerSize (header-length p)
-      ∙ join-field _ thresholdSize (pair-length 4 8 (p .thresholds) (p .allowances)) (p .count) (bucketEntries p) i width o l h)
+      (field-right width (thresholdEntrySize * i + o) (header p) (thresholdEntries p ++ bucketEntries p) headerSize (header-length p)
+      ∙ join-field _ thresholdEntrySize (pair-length 4 8 (p .thresholds) (p .allowances)) (p .count) (bucketEntries p) i width o l h)
 
-  in-ends : (j width o at : ℕ) → j < p .buckets → o + width ≤ bucketSize → at ≡ bucketOffset (p .count) + (bucketSize * j + o)
+  in-ends : (j width o at : ℕ) → j < p .buckets → o + width ≤ bucketEntrySize → at ≡ bucketOffset (p .count) + (bucketEntrySize * j + o)
       → field width at (encoded p) ≡ field width o (pair 4 4 (p .left) (p .right) j)
   unfolding encoded bucketEntries
   in-ends j width o at l h e =
       rw (e, ← append-assoc (header p) (thresholdEntries p) (bucketEntries p))
-      (field-right width (bucketSize * j + o) (header p ++ thresholdEntries p) (bucketEntries p) (bucketOffset (p .count)) (front-length p)
-      ∙ rw append-nil at (join-field (pair 4 4 (p .left) (p .right)) bucketSize (pair-length 4 4 (p .left) (p .right)) (p .buckets) [] j width o l h))
+      (field-right width (bucketEntrySize * j + o) (header p ++ thresholdEntries p) (bucketEntries p) (bucketOffset (p .count)) (front-length p)
+      ∙ rw append-nil at (join-field (pair 4 4 (p .left) (p .right)) bucketEntrySize (pair-length 4 4 (p .left) (p .right)) (p .buckets) [] j width o l h))
 
-  in-threshold : (i : ℕ) → i < p .count → field 4 (headerSize + thresholdSize * i) (encoded p) ≡ thresholdAt p i
+  in-threshold : (i : ℕ) → i < p .count → field 4 (headerSize + thresholdEntrySize * i) (encoded p) ≡ thresholdAt p i
   in-threshold i l =
-      in-entry i 4 0 (headerSize + thresholdSize * i) l (omega arith) (omega arith)
+      in-entry i 4 0 (headerSize + thresholdEntrySize * i) l (omega arith) (omega arith)
       ∙ field-here 4 (thresholdAt p i) (toLE 8 (allowanceAt p i)) (omega (arith, a .threshold-range i l .1))
 
-  in-allowance : (i : ℕ) → i < p .count → field 8 (headerSize + allowanceField + thresholdSize * i) (encoded p) ≡ allowanceAt p i
+  in-allowance : (i : ℕ) → i < p .count → field 8 (headerSize + allowanceField + thresholdEntrySize * i) (encoded p) ≡ allowanceAt p i
   unfolding allowanceLimit
   in-allowance i l =
-      in-entry i 8 allowanceField (headerSize + allowanceField + thresholdSize * i) l (omega arith) (omega arith)
+      in-entry i 8 allowanceField (headerSize + allowanceField + thresholdEntrySize * i) l (omega arith) (omega arith)
       ∙ field-next 8 0 4 (thresholdAt p i) (toLE 8 (allowanceAt p i))
       ∙ field-last 8 (allowanceAt p i) (omega (arith, a .allowance-range i l .1))
 
-  in-left : (j : ℕ) → j < p .buckets → field 4 (bucketOffset (p .count) + bucketSize * j) (encoded p) ≡ leftAt p j
+  in-left : (j : ℕ) → j < p .buckets → field 4 (bucketOffset (p .count) + bucketEntrySize * j) (encoded p) ≡ leftAt p j
   unfolding million
   in-left j l =
-      in-ends j 4 0 (bucketOffset (p .count) + bucketSize * j) l (omega arith) (omega arith)
+      in-ends j 4 0 (bucketOffset (p .count) + bucketEntrySize * j) l (omega arith) (omega arith)
       ∙ field-here 4 (leftAt p j) (toLE 4 (rightAt p j)) (omega (arith, permitted-le p a (leftAt p j) (a .ends-permitted j l .0)))
 
-  in-right : (j : ℕ) → j < p .buckets → field 4 (bucketOffset (p .count) + rightField + bucketSize * j) (encoded p) ≡ rightAt p j
+  in-right : (j : ℕ) → j < p .buckets → field 4 (bucketOffset (p .count) + rightField + bucketEntrySize * j) (encoded p) ≡ rightAt p j
   unfolding million
   in-right j l =
-      in-ends j 4 rightField (bucketOffset (p .count) + rightField + bucketSize * j) l (omega arith) (omega arith)
+      in-ends j 4 rightField (bucketOffset (p .count) + rightField + bucketEntrySize * j) l (omega arith) (omega arith)
       ∙ field-next 4 0 4 (leftAt p j) (toLE 4 (rightAt p j))
       ∙ field-last 4 (rightAt p j) (omega (arith, permitted-le p a (rightAt p j) (a .ends-permitted j l .1)))
 

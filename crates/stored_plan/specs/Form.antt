@@ -31,25 +31,25 @@ abbrev pub horizonField : ℕ
 horizonField = 12
 
 -- the entry of a threshold, and in it the allowance
-abbrev pub thresholdSize : ℕ
-thresholdSize = 12
+abbrev pub thresholdEntrySize : ℕ
+thresholdEntrySize = 12
 
 abbrev pub allowanceField : ℕ
 allowanceField = 4
 
 -- the entry of a bucket, and in it the right end
-abbrev pub bucketSize : ℕ
-bucketSize = 8
+abbrev pub bucketEntrySize : ℕ
+bucketEntrySize = 8
 
 abbrev pub rightField : ℕ
 rightField = 4
 
 -- the offset of the buckets behind K thresholds; the length with B buckets; the longest
 unfoldable pub bucketOffset : ℕ → ℕ
-bucketOffset count = headerSize + thresholdSize * count
+bucketOffset count = headerSize + thresholdEntrySize * count
 
 unfoldable pub formSize : ℕ → ℕ → ℕ
-formSize count buckets = bucketOffset count + bucketSize * buckets
+formSize count buckets = bucketOffset count + bucketEntrySize * buckets
 
 abbrev pub formLimit : ℕ
 formLimit = 264

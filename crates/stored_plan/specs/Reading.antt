@@ -9,7 +9,7 @@ use Rattle.plan.specs.Plan.{countLimit, bucketLimit, countsFit, planRefusal}
 use Rattle.plan.specs.declared.Plan.{Plan}
 use Rattle.stored_plan.specs.Little.{field, column}
 use Rattle.stored_plan.specs.Form.{headerSize, countField, bucketsField, thresholdOffsetField, bucketOffsetField, delayField, horizonField}
-use Rattle.stored_plan.specs.Form.{thresholdSize, allowanceField, bucketSize, rightField, bucketOffset, formSize}
+use Rattle.stored_plan.specs.Form.{thresholdEntrySize, allowanceField, bucketEntrySize, rightField, bucketOffset, formSize}
 use Rattle.stored_plan.specs.declared.Read.{Read}
 
 -- a table with its first `count` places as f says
@@ -31,10 +31,10 @@ module _ (bytes : List ℕ) where
     buckets = bucketsIn;
     delay = field 4 delayField bytes;
     horizon = field 4 horizonField bytes;
-    thresholds = filled countIn (column 4 headerSize thresholdSize bytes) (replicate countLimit 0);
-    allowances = filled countIn (column 8 (headerSize + allowanceField) thresholdSize bytes) (replicate countLimit 0);
-    left = filled bucketsIn (column 4 (bucketOffset countIn) bucketSize bytes) (replicate bucketLimit 0);
-    right = filled bucketsIn (column 4 (bucketOffset countIn + rightField) bucketSize bytes) (replicate bucketLimit 0);
+    thresholds = filled countIn (column 4 headerSize thresholdEntrySize bytes) (replicate countLimit 0);
+    allowances = filled countIn (column 8 (headerSize + allowanceField) thresholdEntrySize bytes) (replicate countLimit 0);
+    left = filled bucketsIn (column 4 (bucketOffset countIn) bucketEntrySize bytes) (replicate bucketLimit 0);
+    right = filled bucketsIn (column 4 (bucketOffset countIn + rightField) bucketEntrySize bytes) (replicate bucketLimit 0);
   }
 
   unfoldable pub offsetsFit : Bool

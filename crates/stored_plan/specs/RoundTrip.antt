@@ -13,7 +13,7 @@ use Rattle.stored_plan.specs.Reading.{decoded}
 use Rattle.stored_plan.specs.Writing.{written, bytesAfter}
 
 -- q is p in its numbers and each counted place, and has zeros elsewhere
-pub record Same (p q : Plan) : Type 0 where
+pub record SamePlan (p q : Plan) : Type 0 where
   pub counted-same : SameCounted p q
   pub entries-past : (i : ℕ) → p .count ≤ i → (thresholdAt q i ≡ 0) × (allowanceAt q i ≡ 0)
   pub ends-past : (j : ℕ) → p .buckets ≤ j → (leftAt q j ≡ 0) × (rightAt q j ≡ 0)
@@ -29,7 +29,7 @@ pub record Zeros (p : Plan) : Type 0 where
 
 -- an accepted plan's form is read, and is the plan
 abbrev pub PlanBack : Type 0
-PlanBack = (p : Plan) → planRefusal p ≡ 0 → (decoded (encoded p) .refusal ≡ 0) × Same p (decoded (encoded p) .plan)
+PlanBack = (p : Plan) → planRefusal p ≡ 0 → (decoded (encoded p) .refusal ≡ 0) × SamePlan p (decoded (encoded p) .plan)
 
 -- accepted bytes, read and written, are the same bytes
 abbrev pub BytesBack : Type 0
@@ -38,7 +38,7 @@ BytesBack = (bytes : List ℕ) → Bytes bytes → decoded bytes .refusal ≡ 0 
 -- both of what the entries hand back: what was written into lent bytes, any that the form fits, is read as the plan
 abbrev pub WrittenBack : Type 0
 WrittenBack = (p : Plan) (bytes : List ℕ) → written p bytes .refusal ≡ 0
-    → let stored = take (written p bytes .size) (bytesAfter p bytes) in (decoded stored .refusal ≡ 0) × Same p (decoded stored .plan)
+    → let stored = take (written p bytes .size) (bytesAfter p bytes) in (decoded stored .refusal ≡ 0) × SamePlan p (decoded stored .plan)
 
 -- accepted bytes, read, then written into lent bytes, any that are long enough, stand at their start, and the rest is as it was
 abbrev pub ReadBack : Type 0

@@ -3,8 +3,9 @@ use mathlib.Core.Path.{_≡_}
 use mathlib.Core.List.{List, [], _∷_, _++_, map}
 use Prim.Native.Nat.{ℕ}
 use lib.ListN.{length, take, set, replicate}
+use Rattle.plan.specs.Plan.{countLimit, bucketLimit}
 use Rattle.plan.specs.PlanF.{planF}
-use Rattle.stored_plan.specs.Form.{encoded}
+use Rattle.stored_plan.specs.Form.{formSize, formLimit, encoded}
 use Rattle.stored_plan.specs.Reading.{noPlan, decoded}
 use Rattle.stored_plan.specs.Writing.{written, bytesAfter}
 
@@ -37,11 +38,11 @@ damaged =
 unfoldable pub damages : List ℕ
 damages = 7 ∷ 7 ∷ 1 ∷ 1 ∷ 1 ∷ 7 ∷ 7 ∷ 7 ∷ 7 ∷ 2 ∷ 4 ∷ []
 
--- plan F is its bytes, both ways; the refusals of damaged forms; and of a plan that is written: a byte too few, no byte more than the form, two
+-- the longest form; plan F is its bytes, both ways; the refusals of damaged forms; and of a plan that is written: a byte too few, no byte more than the form, two
 -- more, and a refused plan into no bytes
 abbrev pub TrialsTheorem : Type 0
 TrialsTheorem =
-    (length planFBytes ≡ 44) × (encoded planF ≡ planFBytes) × (decoded planFBytes ≡ record { refusal = 0; plan = planF })
+    (formSize countLimit bucketLimit ≡ formLimit) × (length planFBytes ≡ 44) × (encoded planF ≡ planFBytes) × (decoded planFBytes ≡ record { refusal = 0; plan = planF })
     × (map (λ bytes. decoded bytes .refusal) damaged ≡ damages)
     × (written planF (replicate 43 9) ≡ record { refusal = 12; size = 0 }) × (bytesAfter planF (replicate 43 9) ≡ replicate 43 9)
     × (written planF (replicate 44 9) ≡ record { refusal = 0; size = 44 }) × (bytesAfter planF (replicate 44 9) ≡ planFBytes)

@@ -9,15 +9,15 @@ ghost use Rattle.stored_plan.specs.Reading.{filled, countIn, bucketsIn, 
 use crate::HEADER_SIZE;
 use crate::Read;
 use crate::form::ALLOWANCE_FIELD;
+use crate::form::BUCKET_ENTRY_SIZE;
 use crate::form::BUCKET_OFFSET_FIELD;
-use crate::form::BUCKET_SIZE;
 use crate::form::BUCKETS_FIELD;
 use crate::form::COUNT_FIELD;
 use crate::form::DELAY_FIELD;
 use crate::form::HORIZON_FIELD;
 use crate::form::RIGHT_FIELD;
+use crate::form::THRESHOLD_ENTRY_SIZE;
 use crate::form::THRESHOLD_OFFSET_FIELD;
-use crate::form::THRESHOLD_SIZE;
 use crate::form::bucket_offset;
 use crate::form::form_size;
 use crate::little::read_le;
@@ -98,20 +98,27 @@ fn plan_in(bytes: &[u8]) -> Plan
     let b = buckets as usize;
     let at = bucket_offset(count);
     let mut thresholds = [0u32; COUNT_LIMIT];
-    fields_in(bytes, HEADER_SIZE, THRESHOLD_SIZE, 4, k, &mut thresholds);
+    fields_in(
+        bytes,
+        HEADER_SIZE,
+        THRESHOLD_ENTRY_SIZE,
+        4,
+        k,
+        &mut thresholds,
+    );
     let mut allowances = [0u64; COUNT_LIMIT];
     long_fields_in(
         bytes,
         HEADER_SIZE + ALLOWANCE_FIELD,
-        THRESHOLD_SIZE,
+        THRESHOLD_ENTRY_SIZE,
         8,
         k,
         &mut allowances,
     );
     let mut left = [0u32; BUCKET_LIMIT];
-    fields_in(bytes, at, BUCKET_SIZE, 4, b, &mut left);
+    fields_in(bytes, at, BUCKET_ENTRY_SIZE, 4, b, &mut left);
     let mut right = [0u32; BUCKET_LIMIT];
-    fields_in(bytes, at + RIGHT_FIELD, BUCKET_SIZE, 4, b, &mut right);
+    fields_in(bytes, at + RIGHT_FIELD, BUCKET_ENTRY_SIZE, 4, b, &mut right);
     Plan {
         count,
         buckets,

@@ -5,15 +5,15 @@ ghost use Prim.Native.Nat.{ℕ, _+_, _≤_, _<_};
 ghost use lib.ListN.{length};
 ghost use Rattle.plan.specs.Plan.{countLimit, bucketLimit};
 ghost use Rattle.stored_plan.specs.Little.{putAt};
-ghost use Rattle.stored_plan.specs.Form.{headerSize, thresholdSize, bucketSize, bucketOffset, formSize, pair, header, thresholdEntries, bucketEntries};
+ghost use Rattle.stored_plan.specs.Form.{headerSize, thresholdEntrySize, bucketEntrySize, bucketOffset, formSize, pair, header, thresholdEntries, bucketEntries};
 ghost use Rattle.stored_plan.specs.Writing.{writeRefusal, written, bytesAfter};
 use crate::HEADER_SIZE;
 use crate::Written;
-use crate::form::BUCKET_SIZE;
+use crate::form::BUCKET_ENTRY_SIZE;
 use crate::form::COUNT_FIELD;
 use crate::form::DELAY_FIELD;
+use crate::form::THRESHOLD_ENTRY_SIZE;
 use crate::form::THRESHOLD_OFFSET_FIELD;
-use crate::form::THRESHOLD_SIZE;
 use crate::form::bucket_offset;
 use crate::form::form_size;
 use crate::little::write_two;
@@ -35,7 +35,7 @@ fn write_header(bytes: &mut [u8], p: Plan)
 
 // The entry of the threshold at place i.
 fn write_threshold(bytes: &mut [u8], at: usize, p: Plan, i: usize)
-    requires { ⌜ (i < countLimit) × (at + thresholdSize ≤ length (now bytes)) ⌝ }
+    requires { ⌜ (i < countLimit) × (at + thresholdEntrySize ≤ length (now bytes)) ⌝ }
     ensures { λ _. ⌜ now (bytes .exit) ≡ putAt at (pair 4 8 (p .thresholds) (p .allowances) i) (now (bytes .entry)) ⌝ }
 {
     write_two(bytes, at, 4, p.thresholds[i], 8, p.allowances[i]);
@@ -43,7 +43,7 @@ fn write_threshold(bytes: &mut [u8], at: usize, p: Plan, i: usize)
 
 // The entry of the bucket at place j.
 fn write_bucket(bytes: &mut [u8], at: usize, p: Plan, j: usize)
-    requires { ⌜ (j < bucketLimit) × (at + bucketSize ≤ length (now bytes)) ⌝ }
+    requires { ⌜ (j < bucketLimit) × (at + bucketEntrySize ≤ length (now bytes)) ⌝ }
     ensures { λ _. ⌜ now (bytes .exit) ≡ putAt at (pair 4 4 (p .left) (p .right) j) (now (bytes .entry)) ⌝ }
 {
     write_two(bytes, at, 4, p.left[j], 4, p.right[j] as u64);
@@ -56,7 +56,7 @@ fn write_thresholds(bytes: &mut [u8], p: Plan)
 {
     let k = p.count as usize;
     for i in 0..k {
-        write_threshold(bytes, HEADER_SIZE + THRESHOLD_SIZE * i, p, i);
+        write_threshold(bytes, HEADER_SIZE + THRESHOLD_ENTRY_SIZE * i, p, i);
     }
 }
 
@@ -68,7 +68,7 @@ fn write_buckets(bytes: &mut [u8], p: Plan)
     let b = p.buckets as usize;
     let at = bucket_offset(p.count);
     for j in 0..b {
-        write_bucket(bytes, at + BUCKET_SIZE * j, p, j);
+        write_bucket(bytes, at + BUCKET_ENTRY_SIZE * j, p, j);
     }
 }
 

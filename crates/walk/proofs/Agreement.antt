@@ -1,4 +1,4 @@
--- The two forms of the walk agree at every step: the row's boundaries are the smallest and the largest of rules 2 and 3, and what a step
+-- The two forms of the walk agree at every step: the row's boundaries are the smallest and the largest of rules 3.4 and 3.5, and what a step
 -- makes of the row is what it makes of the masses by count.
 use mathlib.Core.Path.{_≡_, refl, sym, ap, _∙_, fun-ext}
 use mathlib.Core.Logic.{_↔_, _⊎_, inl, inr}
@@ -48,7 +48,7 @@ by-place f P under from c = go (le? f c) (test f c)
     go true (le h) = let e : f + (c - f) ≡ c = omega arith in rw e at (from (c - f))
     go false (gt h) = under c h
 
--- ---- rule 1
+-- ---- new masses
 
 previous-at : (f : ℕ) (xs : List ℕ) (i : ℕ) → previous (byCount f xs) (f + i) ≡ comes 0 xs i
 previous-at zero xs zero = refl
@@ -125,7 +125,7 @@ module _ (t f : ℕ) (xs : List ℕ) (fits : f + length xs ≤ suc t) where
   pub at-over : (k : ℕ) → k ≤ length xs → massFrom t (byCount f xs) (f + k) ≡ sum (drop k xs)
   at-over k h = omega (arith, from-below t (byCount f xs) (f + k), at-under k h, at-total, sum-take-drop xs k)
 
--- ---- rules 2 and 3
+-- ---- boundaries
 
 -- both boundaries exist, where the spent masses are allowed
 pub upper-exists : (t e : ℕ) (g : ℕ → ℕ) (over : ℕ) → over ≤ e → Smallest (FitsUpper t e g over) 1 (1 + t) (upperBoundary t e g over)
@@ -183,7 +183,7 @@ module _ (t e f : ℕ) (cs : List ℕ) (fits : f + length cs ≤ suc t) where
           )) in
           omega arith
 
--- ---- rule 4
+-- ---- spent masses
 
 cut-at : (f d m : ℕ) (xs : List ℕ) (c : ℕ) → only (isLive (f + d) (f + d + m) c) (byCount f xs c) ≡ byCount (f + d) (take m (drop d xs)) c
 cut-at f d m xs =
@@ -247,7 +247,7 @@ module _ (a : ℕ) (threshold : a ≤ million) (e : ℕ) (half : e + e < M) (n :
   d<k : d < k
   d<k = apart a threshold e half r s
 
-  -- the boundaries of the row after the step are those of rules 2 and 3
+  -- the boundaries of the row after the step are those of rules 3.4 and 3.5
   pub upper-is : Smallest (FitsUpper (suc n) e g (r .over)) 1 (1 + suc n) (upper (stepRow a e r))
   upper-is =
       rw (new-same, step-upper a threshold e half r s)

@@ -25,16 +25,16 @@ use Rattle.walk.proofs.Agreement.{at-add, same, first-at, upper-at, not
 
 -- step 0, as the code holds it
 pub start-walked : recordOf startRow ≡ startWalked
-unfolding recordOf startRow below startWalked
+unfolding startWalked
 start-walked = refl
 
 pub start-words : padded (startRow .masses) ≡ startPart
-unfolding startRow startPart
+unfolding startPart
 start-words = refl
 
 -- step 0 is not wide
 pub start-not-wide : isWide startWalked ≡ false
-unfolding isWide wide? wide startWalked eqZ?
+unfolding isWide wide? wide startWalked recordOf startRow below eqZ?
 start-not-wide = refl
 
 -- words after the live counts are zero

@@ -1,4 +1,4 @@
--- What is claimed of the chances of one walk: the part of demand 3 that speaks of all strings.
+-- What is claimed of the chances of one walk (rules 4.2, 4.3): the part of demand 3 that speaks of all strings.
 use mathlib.Core.Bool.{Bool, _&&_}
 use Prim.Native.Nat.{ℕ, _+_, _*_, _^_, _≤_}
 use lib.ListN.{length}
@@ -19,7 +19,7 @@ module _ (a : ℕ) (E : ℕ → ℕ) where
   meets? side s =
       isOn side (mark (firstAt a E) (upperAt a E) s) && noWideBefore? a E (lastStep (mark (firstAt a E) (upperAt a E) s) (length s))
 
-  -- W: the summed weights of the strings of n draws that meet the side's boundary by step n, where a draw is 1 with the chance a
+  -- W: the summed weights of the strings of n draws that meet the side's boundary first by step n, where a draw is 1 with the chance a
   unfoldable pub meeting : Side → ℕ → ℕ
   meeting side n = chance a million n (meets? side)
 

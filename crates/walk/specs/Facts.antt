@@ -40,7 +40,7 @@ pub record Moves (a : ℕ) (r s : Row) : Type 0 where
 
 -- step n + 1 from the row r
 pub record StepFacts (a e n : ℕ) (r : Row) : Type 0 where
-  -- both boundaries exist: they are those of rules 2 and 3, and no other number is (proofs/Searches)
+  -- both boundaries exist: they are those of rules 3.4 and 3.5, and no other number is (proofs/Searches)
   pub upper-is : Smallest (FitsUpper (suc n) e (newMass a (byCount (r .first) (r .masses))) (r .over)) 1 (1 + suc n) (upper (stepRow a e r))
   pub lower-is : Largest (FitsLower (suc n) e (newMass a (byCount (r .first) (r .masses))) (r .under)) 0 (suc (suc n)) (stepRow a e r .first)
   -- it is the step of the rules, masses and spent masses too
@@ -75,7 +75,7 @@ pub record WalkFacts (a : ℕ) (E : ℕ → ℕ) (n : ℕ) : Type 0 where
   pub no-more : NoWideBefore a E n → massOf (walk a E n) ≤ M + wide * n
   -- a count at or beyond a boundary is not live and has no mass
   pub off : (c : ℕ) → (c < walk a E n .first) ⊎ (walk a E n .upper ≤ c) → walk a E n .mass c ≡ 0
-  -- a count that rule 1 does not name, before the first live one or past the upper boundary, gets no new mass
+  -- a count that rules 3.3 do not name, before the first live one or past the upper boundary, gets no new mass
   pub new-off : (c : ℕ) → (c < walk a E n .first) ⊎ (walk a E n .upper < c) → newMass a (walk a E n .mass) c ≡ 0
   pub small : (c : ℕ) → walk a E n .mass c ≤ M
 

@@ -1,12 +1,12 @@
 -- A row as the code holds it: a record with a signed lower boundary, and the 769 words of the threshold's part.
 use mathlib.Core.Bool.{Bool}
-use mathlib.Core.List.{List, [], _∷_, _++_}
+use mathlib.Core.List.{List, _++_}
 use Prim.Native.Nat.{ℕ, suc, _-_}
 use lib.IntN.{ℤ, pos, negsuc}
 use lib.ListN.{length, take, replicate}
-use Rattle.walk.specs.Units.{M, wide}
+use Rattle.walk.specs.Units.{wide}
 use Rattle.walk.specs.Walk.{below, wide?}
-use Rattle.walk.specs.Row.{Row, upper}
+use Rattle.walk.specs.Row.{Row, upper, startRow}
 use Rattle.walk.specs.declared.Walked.{Walked}
 
 -- the first count above a lower boundary: lower + 1, and 0 below -1
@@ -30,12 +30,12 @@ recordOf r = record { lower = below (r .first); upper = upper r; over = r .over;
 unfoldable pub padded : List ℕ → List ℕ
 padded masses = masses ++ replicate (wide - length masses) 0
 
--- step 0 (rules 3.2): boundaries 1 and -1, nothing spent; count 0 has the whole mass
+-- step 0, as a record and its words (rules 3.2, 5.1)
 unfoldable pub startWalked : Walked
-startWalked = record { lower = negsuc 0; upper = 1; over = 0; under = 0 }
+startWalked = recordOf startRow
 
 unfoldable pub startPart : List ℕ
-startPart = padded (M ∷ [])
+startPart = padded (startRow .masses)
 
 unfoldable pub isWide : Walked → Bool
 isWide w = wide? (w .upper) (w .lower)

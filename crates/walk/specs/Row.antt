@@ -1,4 +1,4 @@
--- The same walk in the form that runs: a row, the list of the live masses from the first live count on, which the words of the threshold's
+-- The same walk in the form that runs (rules 3.2 to 3.6): a row, the list of the live masses from the first live count on, which the words of the threshold's
 -- part hold. proofs/Agreement shows that both forms agree at every step.
 use mathlib.Core.List.{List, [], _∷_}
 use Prim.Native.Nat.{ℕ, zero, suc, _+_, _-_, _≤_, _<_}
@@ -34,24 +34,24 @@ unfoldable pub cellsBy : (ℕ → ℕ → ℕ) → ℕ → List ℕ → List ℕ
 cellsBy cell come [] = cell 0 come ∷ []
 cellsBy cell come (x ∷ xs) = cell x come ∷ cellsBy cell x xs
 
--- rule 1: the new masses; and how many of them were really rounded
+-- the new masses (rules 3.3); and how many of them were really rounded
 abbrev pub newMasses : ℕ → List ℕ → List ℕ
 newMasses a xs = cellsBy (massUp a) 0 xs
 
 abbrev pub roundings : ℕ → List ℕ → ℕ
 roundings a xs = sum (cellsBy (rounded a) 0 xs)
 
--- rule 2: how many cells lie under the upper boundary: the fewest such that the others and the upper spent mass are at most e
+-- how many cells lie under the upper boundary (rules 3.4): the fewest such that the others and the upper spent mass are at most e
 unfoldable pub kept : ℕ → ℕ → List ℕ → ℕ
 kept e over [] = 0
 kept e over (x ∷ xs) = let r = suc (kept e over xs) in choose (le? (sum (x ∷ xs) + over) e) 0 r
 
--- rule 3: how many cells lie at or under the lower boundary: the most that are, with the lower spent mass, at most e
+-- how many cells lie at or under the lower boundary (rules 3.5): the most that are, with the lower spent mass, at most e
 unfoldable pub dropped : ℕ → ℕ → List ℕ → ℕ
 dropped e under [] = 0
 dropped e under (x ∷ xs) = let r = suc (dropped e (x + under) xs) in choose (le? (x + under) e) r 0
 
--- rule 4: of the cells cs, the first d and those from place k on join the spent masses
+-- (rules 3.6) of the cells cs, the first d and those from place k on join the spent masses
 unfoldable pub cut : List ℕ → ℕ → ℕ → Row → Row
 cut cs d k r = record {
   first = r .first + d;

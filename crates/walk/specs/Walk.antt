@@ -21,7 +21,7 @@ pub record Walk : Type 0 where
   pub over : ℕ
   pub under : ℕ
 
--- a count c strictly between the boundaries: from `first` on and below `upper`
+-- a count c is live
 abbrev pub isLive : ℕ → ℕ → ℕ → Bool
 isLive first upper c = le? first c && lt? c upper
 
@@ -42,7 +42,7 @@ previous g (suc c) = g c
 abbrev pub cellwise : (ℕ → ℕ → ℕ) → (ℕ → ℕ) → ℕ → ℕ
 cellwise cell g c = cell (g c) (previous g c)
 
--- rule 1: the new masses, by count
+-- the new masses, by count (rules 3.3)
 abbrev pub newMass : ℕ → (ℕ → ℕ) → ℕ → ℕ
 newMass a g = cellwise (massUp a) g
 
@@ -54,21 +54,21 @@ massFrom t g j = sumTo (suc t) (λ c. only (le? j c) (g c))
 unfoldable pub massBelow : ℕ → (ℕ → ℕ) → ℕ → ℕ
 massBelow t g f = sumTo (suc t) (λ c. only (lt? c f) (g c))
 
--- rule 2, with e = E(t), the new masses g and the upper spent mass: j may be the upper boundary; the smallest such j from 1 to t + 1
+-- with e = E(t), the new masses g and the upper spent mass: j may be the upper boundary; the smallest such j from 1 to t + 1 (rules 3.4)
 abbrev pub FitsUpper : ℕ → ℕ → (ℕ → ℕ) → ℕ → ℕ → Type 0
 FitsUpper t e g over j = massFrom t g j + over ≤ e
 
 unfoldable pub upperBoundary : ℕ → ℕ → (ℕ → ℕ) → ℕ → ℕ
 upperBoundary t e g over = searchUp t 1 (λ j. le? (massFrom t g j + over) e)
 
--- rule 3: f - 1 may be the lower boundary; the largest such f - 1 from -1 to t
+-- f - 1 may be the lower boundary; the largest such f - 1 from -1 to t (rules 3.5)
 abbrev pub FitsLower : ℕ → ℕ → (ℕ → ℕ) → ℕ → ℕ → Type 0
 FitsLower t e g under f = massBelow t g f + under ≤ e
 
 unfoldable pub firstLive : ℕ → ℕ → (ℕ → ℕ) → ℕ → ℕ
 firstLive t e g under = searchDown (suc t) (λ f. le? (massBelow t g f + under) e)
 
--- rule 4: masses at or beyond a boundary join that side's spent mass
+-- masses at or beyond a boundary join that side's spent mass (rules 3.6)
 unfoldable pub absorbed : ℕ → (ℕ → ℕ) → ℕ → ℕ → Walk → Walk
 absorbed t g first upper w = record {
   first = first;

@@ -1,4 +1,4 @@
-// The four rules of a step, on the words of one threshold's part (rules 3.3 to 3.6).
+// The rules of a step, on the words of one threshold's part (rules 3.3 to 3.6).
 
 use crate::mass::mass_up;
 ghost use mathlib.Core.Path.{_≡_};
@@ -25,7 +25,7 @@ pub(crate) struct Cut {
     pub under: u64,
 }
 
-// Rule 1, in place: n live masses become n + 1 new ones. `step` keeps what it and the others here require.
+// New masses, in place (rules 3.3): n live masses become n + 1 new ones. `step` keeps what it and the others here require.
 pub(crate) fn spread(part: &mut [u64], n: usize, a: u32)
     requires { ⌜ (n < length (now part)) × (a ≤ million) × (allUpTo massLimit (take n (now part)) ≡ true) ⌝ }
     ensures { λ r. ⌜ now (part .exit) ≡ newMasses a (take n (now (part .entry))) ++ drop (n + 1) (now (part .entry)) ⌝ }
@@ -43,7 +43,7 @@ pub(crate) fn spread(part: &mut [u64], n: usize, a: u32)
     part[n] = m;
 }
 
-// Rule 2: masses are taken off the top while they and the upper spent mass are at most e.
+// The upper boundary (rules 3.4): masses are taken off the top while they and the upper spent mass are at most e.
 fn find_upper(cs: &[u64], spent: u64, e: u64) -> Edge
     requires { ⌜ spent ≤ e ⌝ }
     ensures { λ r. ⌜ (r .at ≡ kept e spent (now (cs .entry))) × (r .spent ≡ spent + sum (drop (r .at) (now (cs .entry)))) ⌝ }
@@ -67,7 +67,7 @@ fn find_upper(cs: &[u64], spent: u64, e: u64) -> Edge
     }
 }
 
-// Rule 3: masses are taken off the bottom while they and the lower spent mass are at most e.
+// The lower boundary (rules 3.5): masses are taken off the bottom while they and the lower spent mass are at most e.
 fn find_lower(cs: &[u64], spent: u64, e: u64) -> Edge
     requires { ⌜ spent ≤ e ⌝ }
     ensures { λ r. ⌜ (r .at ≡ dropped e spent (now (cs .entry))) × (r .spent ≡ spent + sum (take (r .at) (now (cs .entry)))) ⌝ }
@@ -119,7 +119,7 @@ pub(crate) fn clear_from(part: &mut [u64], k: usize)
     }
 }
 
-// Rules 2 to 4 on the first m words: what lies between the boundaries moves to the front, and zeros follow.
+// Boundaries and spent masses (rules 3.4 to 3.6) on the first m words: what lies between the boundaries moves to the front, and zeros follow.
 pub(crate) fn trim(part: &mut [u64], m: usize, over: u64, under: u64, e: u64) -> Cut
     requires { ⌜ (length (now part) ≡ wide) × (m ≤ wide) × (over ≤ e) × (under ≤ e) × (e + e < sum (take m (now part)) + over + under) ⌝ }
     ensures { λ r. ⌜

@@ -20,7 +20,7 @@ pub fn start_walked() -> Walked
     }
 }
 
-// Count 0 has the whole mass. For the crate above only, which lends a part of 769 words.
+// Count 0 has the whole mass. For `bucket_test` only, which lends a part of 769 words.
 pub fn start_part(part: &mut [u64])
     requires { ⌜ length (now part) ≡ wide ⌝ }
     ensures { λ _. ⌜ now (part .exit) ≡ startPart ⌝ }

@@ -27,7 +27,7 @@ fn raised(lower: i32, by: usize) -> i32
     lower + by as i32
 }
 
-// One step of the walk of the threshold a, in place, with e to spend. For the crate above only, which steps a state that `is_sound` lets
+// One step of the walk of the threshold a, in place, with e to spend. For `bucket_test` only, which steps a state that `is_sound` lets
 // through after at most 50,000 draws, and that is not wide.
 pub fn step(part: &mut [u64], w: Walked, a: u32, e: u64) -> Walked
     requires { ⌜ Steppable a e w (now part) ⌝ }

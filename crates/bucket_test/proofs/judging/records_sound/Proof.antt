@@ -7,7 +7,7 @@ use native.Mathlib.Omega.{arith}
 use lib.ListN.{length}
 use Rattle.walk.specs.Units.{wide}
 use Rattle.plan.specs.Plan.{spendingOf}
-use Rattle.bucket_test.specs.Turn.{recordAt, soundAt}
+use Rattle.bucket_test.specs.Turn.{recordAt, recordSoundAt}
 use Rattle.plan.specs.declared.Plan.{Plan}
 use Rattle.bucket_test.specs.declared.State.{State}
 use Rattle.plan.proofs.PlaceLaws.{passed, failed, Sought, sought-none, sought-next, sought-here, sought-nowhere}
@@ -18,7 +18,7 @@ use Rattle.bucket_test.proofs.judging.records_sound.Statement.{statemen
 use Rattle.bucket_test.proofs.judging.records_sound.Tie as tie
 
 abbrev passes : Plan → State → List ℕ → ℕ → Bool
-passes p s ws i = soundAt p ws (s .n) (s .ones) i (recordAt s i)
+passes p s ws i = recordSoundAt p ws (s .n) (s .ones) i (recordAt s i)
 
 abbrev Inv-loop : tie.InvT-loop
 Inv-loop words p s count i₀ i = (count ≤ 10) × (length words ≡ 769 * count) × Sought false (passes p s words) count i

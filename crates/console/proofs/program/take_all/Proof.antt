@@ -3,14 +3,14 @@ use mathlib.Core.Path.{_≡_, refl}
 use lib.ListN.{length}
 use borrow.Author.Needs.{needs}
 use Rattle.bucket_test.specs.Draw.{outcomeOf}
-use Rattle.console.specs.Program.{Taken}
+use Rattle.console.specs.Program.{ComesTo}
 use Rattle.console.proofs.Chunks.{taken-none, taken-more}
 use Rattle.console.proofs.program.take_all.Statement.{statement}
 use Rattle.console.proofs.program.take_all.Tie as tie
 
 abbrev Inv-loop : tie.InvT-loop
 Inv-loop p input words₀ drawn₀ more₀ turns₀ words drawn more turns =
-    (length words ≡ length words₀) × Taken p (outcomeOf drawn₀ words₀) drawn words
+    (length words ≡ length words₀) × ComesTo p (outcomeOf drawn₀ words₀) drawn words
 
 abbrev μ-loop : tie.MeasureT-loop
 μ-loop p input words₀ drawn₀ more₀ turns₀ words drawn more turns = turns

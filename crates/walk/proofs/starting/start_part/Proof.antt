@@ -3,6 +3,7 @@ use mathlib.Core.Path.{refl}
 use native.Mathlib.Omega.{arith}
 use borrow.Author.Needs.{needs}
 use Rattle.walk.specs.Units.{M, wide}
+use Rattle.walk.specs.Row.{startRow}
 use Rattle.walk.specs.Record.{padded, startPart}
 use Rattle.walk.proofs.starting.start_part.Statement.{statement}
 use Rattle.walk.proofs.starting.start_part.Tie as tie
@@ -20,7 +21,7 @@ same-length : tie.Need-same-length
 same-length c = search needs
 
 returns : tie.Need-returns
-unfolding startPart padded M wide
+unfolding startPart startRow padded M wide
 returns c = rw (c .before .before .clear-from .ensures, c .before .before .before .before .before .pre)
 
 pub start-part-spec : {M : Type 1} → statement M
