@@ -75,7 +75,7 @@ pub(crate) fn interval_of(p: Plan, s: State) -> Interval
     v
 }
 
-fn open_and_wide(t: Threshold) -> bool
+fn wide_open(t: Threshold) -> bool
     ensures { λ r. ⌜ r ≡ wideOpen t ⌝ }
 {
     let m = t.mark;
@@ -96,7 +96,7 @@ fn any_wide(p: Plan, s: State) -> bool
     let mut i = 0;
     while i < count {
         let r = records[i];
-        if open_and_wide(r) {
+        if wide_open(r) {
             return true;
         }
         i += 1;

@@ -8,8 +8,8 @@ use crate::answering::answer_of;
 use crate::answering::interval_of;
 use crate::judging::state_sound;
 use crate::starting::no_state;
-use crate::starting::start_parts;
 use crate::starting::start_state;
+use crate::starting::start_words;
 use crate::turning::turn_all;
 use plan::Plan;
 use plan::rules::plan_refusal;
@@ -43,11 +43,11 @@ pub fn begin(p: Plan, words: &mut [u64]) -> Drawn
     if bad > 0 {
         return refused(bad, no_state());
     }
-    let parts = p.count as usize;
-    if words.len() != WIDE * parts {
+    let count = p.count as usize;
+    if words.len() != WIDE * count {
         return refused(8, no_state());
     }
-    start_parts(words, parts);
+    start_words(words, count);
     let state = start_state();
     let answer = answer_of(p, state);
     Drawn {
@@ -56,7 +56,7 @@ pub fn begin(p: Plan, words: &mut [u64]) -> Drawn
     }
 }
 
-fn ends(a: Answer) -> bool
+fn is_ending(a: Answer) -> bool
     ensures { λ r. ⌜ r ≡ isEnding a ⌝ }
 {
     match a {
@@ -108,7 +108,7 @@ pub fn draw(p: Plan, s: State, words: &mut [u64], d: u8) -> Drawn
         return refused(9, s);
     }
     let before = answer_of(p, s);
-    if ends(before) {
+    if is_ending(before) {
         return refused(10, s);
     }
     if !state_sound(p, s, &words[..]) {

@@ -3,7 +3,7 @@
 use crate::State;
 use crate::Threshold;
 use plan::Plan;
-use plan::rules::in_range;
+use plan::rules::within;
 use walk::Mark;
 use walk::WIDE;
 use walk::soundness::is_sound;
@@ -27,8 +27,8 @@ fn record_sound(t: Threshold, part: &[u64], e: u64, n: u32, ones: u32) -> bool
             let w = t.walked;
             is_sound(part, w, n, ones, e)
         }
-        Mark::Above(u) => in_range(u, 1, n),
-        Mark::AtMost(u) => in_range(u, 1, n),
+        Mark::Above(u) => within(u, 1, n),
+        Mark::AtMost(u) => within(u, 1, n),
     }
 }
 

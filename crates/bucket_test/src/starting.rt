@@ -54,7 +54,7 @@ pub(crate) fn no_state() -> State
 }
 
 // Step 0 in each of so many parts.
-pub(crate) fn start_parts(words: &mut [u64], count: usize)
+pub(crate) fn start_words(words: &mut [u64], count: usize)
     requires { ⌜ (count ≤ countLimit) × (length (now words) ≡ wide * count) ⌝ }
     ensures { λ _. ⌜ now (words .exit) ≡ joinTo count (λ i. startPart) ⌝ }
 {

@@ -17,6 +17,9 @@ ghost use Rattle.bucket_test.specs.Answers.{wordOf, bucketOf};
 ghost use Rattle.console.specs.Ascii.{space};
 ghost use Rattle.console.specs.Line.{decimal, refusedLine, lineOf, lineAfter, Puts};
 
+// A buffer for a line: longer than the longest.
+pub const LINE_BUFFER: usize = 64;
+
 // Puts bytes at a place of the line and answers the next place.
 fn put(out: &mut [u8], at: usize, bytes: &[u8]) -> usize
     requires { ⌜ at + length (now bytes) ≤ length (now out) ⌝ }
@@ -83,7 +86,7 @@ fn bucket_of(a: Answer) -> u32
 }
 
 // `refused`, the number, and a newline.
-pub(crate) fn refused_line(number: u32, out: &mut [u8; 64]) -> usize
+pub(crate) fn refused_line(number: u32, out: &mut [u8; LINE_BUFFER]) -> usize
     ensures { λ r. ⌜ Counts r (now (out .exit)) ⌝ }
     ensures { λ r. ⌜ (r ≤ 64) × Puts (refusedLine number) 0 r (now (out .entry)) (now (out .exit)) ⌝ }
 {
@@ -94,7 +97,7 @@ pub(crate) fn refused_line(number: u32, out: &mut [u8; 64]) -> usize
 }
 
 // The line of a report on a state, of any values.
-pub(crate) fn line_of(s: State, r: Report, out: &mut [u8; 64]) -> usize
+pub(crate) fn line_of(s: State, r: Report, out: &mut [u8; LINE_BUFFER]) -> usize
     ensures { λ n. ⌜ Counts n (now (out .exit)) ⌝ }
     ensures { λ n. ⌜ (n ≤ 64) × Puts (lineOf s r) 0 n (now (out .entry)) (now (out .exit)) ⌝ }
 {
@@ -113,7 +116,7 @@ pub(crate) fn line_of(s: State, r: Report, out: &mut [u8; 64]) -> usize
 }
 
 // The line of an outcome: its answer, and n, S and interval of its state.
-pub fn last_line(p: Plan, d: Drawn, out: &mut [u8; 64]) -> usize
+pub fn last_line(p: Plan, d: Drawn, out: &mut [u8; LINE_BUFFER]) -> usize
     ensures { λ n. ⌜ Counts n (now (out .exit)) ⌝ }
     ensures { λ n. ⌜ (n ≤ 64) × Puts (lineAfter p d) 0 n (now (out .entry)) (now (out .exit)) ⌝ }
 {

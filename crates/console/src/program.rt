@@ -1,6 +1,7 @@
 // The program but for its write (rules 9): a plan, draws as they come, and one line.
 
 use crate::feeding::feed;
+use crate::line::LINE_BUFFER;
 use crate::line::last_line;
 use crate::line::refused_line;
 use crate::running::answer_open;
@@ -70,7 +71,7 @@ fn take_all(p: Plan, d: Drawn, input: i32, words: &mut [u64]) -> Drawn
 }
 
 // A test of an accepted plan on the words lent to it, from its beginning to its line.
-fn play(p: Plan, input: i32, words: &mut [u64], out: &mut [u8; 64]) -> usize
+fn play(p: Plan, input: i32, words: &mut [u64], out: &mut [u8; LINE_BUFFER]) -> usize
     ensures { λ n. ⌜ Counts n (now (out .exit)) ⌝ }
     ensures { λ n. ⌜ Prints (played p (now (words .entry))) n (now (words .exit)) (now (out .entry)) (now (out .exit)) ⌝ }
 {
@@ -80,7 +81,7 @@ fn play(p: Plan, input: i32, words: &mut [u64], out: &mut [u8; 64]) -> usize
 }
 
 // The program from its plan's bytes to its line: their refusal, or a test, which is lent the first 769 words for each threshold.
-pub fn serve(stored: &[u8], input: i32, words: &mut [u64], out: &mut [u8; 64]) -> usize
+pub fn serve(stored: &[u8], input: i32, words: &mut [u64], out: &mut [u8; LINE_BUFFER]) -> usize
     ensures { λ n. ⌜ Counts n (now (out .exit)) ⌝ }
     ensures { λ n. ⌜
         Prints (served (now (stored .entry)) (now (words .entry))) n (now (words .exit)) (now (out .entry)) (now (out .exit))

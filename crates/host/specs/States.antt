@@ -1,4 +1,5 @@
--- A state and an answer as they come in and as they go out, field by field. An enum is two numbers: its case, and what the case holds.
+-- A state as it comes in, and states and answers as they go out, field by field. An enum is two numbers: its case, and what the case holds. How an
+-- answer would come in again is for `Kept` only, which says that nothing is lost.
 use mathlib.Core.List.{map}
 use Prim.Native.Nat.{ℕ, zero, suc}
 use Rattle.walk.specs.declared.Mark.{Mark}

@@ -19,7 +19,7 @@ const MOST_THRESHOLDS: u32 = COUNT_LIMIT as u32;
 const MOST_BUCKETS: u32 = BUCKET_LIMIT as u32;
 
 // From lo to hi, both included.
-pub fn in_range(x: u32, lo: u32, hi: u32) -> bool
+pub fn within(x: u32, lo: u32, hi: u32) -> bool
     ensures { λ r. ⌜ r ≡ within lo hi x ⌝ }
 {
     lo <= x && x <= hi
@@ -29,7 +29,7 @@ pub fn in_range(x: u32, lo: u32, hi: u32) -> bool
 pub fn counts_fit(count: u32, buckets: u32) -> bool
     ensures { λ r. ⌜ r ≡ countsFit count buckets ⌝ }
 {
-    in_range(count, 1, MOST_THRESHOLDS) && in_range(buckets, 2, MOST_BUCKETS)
+    within(count, 1, MOST_THRESHOLDS) && within(buckets, 2, MOST_BUCKETS)
 }
 
 // Rule 2: each threshold in its range and above the one before. Judged after rule 1, which keeps the places inside the array.
@@ -37,9 +37,9 @@ fn thresholds_rise(p: Plan) -> bool
     requires { ⌜ p .count ≤ countLimit ⌝ }
     ensures { λ r. ⌜ r ≡ rule2 p ⌝ }
 {
-    let k = p.count as usize;
+    let count = p.count as usize;
     let mut before = 0u32;
-    for i in 0..k {
+    for i in 0..count {
         let t = p.thresholds[i];
         if t <= before {
             return false;
@@ -57,8 +57,8 @@ fn allowances_fit(p: Plan) -> bool
     requires { ⌜ p .count ≤ countLimit ⌝ }
     ensures { λ r. ⌜ r ≡ rule3 p ⌝ }
 {
-    let k = p.count as usize;
-    for i in 0..k {
+    let count = p.count as usize;
+    for i in 0..count {
         let x = p.allowances[i];
         if x < 1 {
             return false;
@@ -74,7 +74,7 @@ fn allowances_fit(p: Plan) -> bool
 fn times_fit(p: Plan) -> bool
     ensures { λ r. ⌜ r ≡ rule4 p ⌝ }
 {
-    in_range(p.delay, 1, DELAY_LIMIT) && in_range(p.horizon, 1, HORIZON_LIMIT)
+    within(p.delay, 1, DELAY_LIMIT) && within(p.horizon, 1, HORIZON_LIMIT)
 }
 
 // Whether x is one of the first n numbers of a table.
@@ -90,10 +90,10 @@ fn is_among(xs: &[u32], n: usize, x: u32) -> bool
     false
 }
 
-// Whether an end is permitted in a plan with the first k of these thresholds, of at most ten: 0, 1,000,000 or a threshold.
-fn is_permitted(ts: &[u32; COUNT_LIMIT], k: usize, e: u32) -> bool
-    requires { ⌜ k ≤ countLimit ⌝ }
-    ensures { λ r. ⌜ ((p : Plan) → p .count ≡ k → p .thresholds ≡ now (ts .entry) → r ≡ permitted p e) ⌝ }
+// Whether an end is permitted in a plan with the first `count` of these thresholds, of at most ten: 0, 1,000,000 or a threshold.
+fn is_permitted(ts: &[u32; COUNT_LIMIT], count: usize, e: u32) -> bool
+    requires { ⌜ count ≤ countLimit ⌝ }
+    ensures { λ r. ⌜ ((p : Plan) → p .count ≡ count → p .thresholds ≡ now (ts .entry) → r ≡ permitted p e) ⌝ }
 {
     if e == 0 {
         return true;
@@ -101,14 +101,14 @@ fn is_permitted(ts: &[u32; COUNT_LIMIT], k: usize, e: u32) -> bool
     if e == MILLION {
         return true;
     }
-    is_among(ts, k, e)
+    is_among(ts, count, e)
 }
 
-// Whether a bucket fits a plan with the first k of these thresholds, of at most ten: left end below right end, not the whole of 0 to
+// Whether a bucket fits a plan with the first `count` of these thresholds, of at most ten: left end below right end, not the whole of 0 to
 // 1,000,000, and both ends permitted.
-fn bucket_fits(ts: &[u32; COUNT_LIMIT], k: usize, left: u32, right: u32) -> bool
-    requires { ⌜ k ≤ countLimit ⌝ }
-    ensures { λ r. ⌜ ((p : Plan) (j : ℕ) → p .count ≡ k → p .thresholds ≡ now (ts .entry) → leftAt p j ≡ left → rightAt p j ≡ right → r ≡ bucketFits p j) ⌝ }
+fn bucket_fits(ts: &[u32; COUNT_LIMIT], count: usize, left: u32, right: u32) -> bool
+    requires { ⌜ count ≤ countLimit ⌝ }
+    ensures { λ r. ⌜ ((p : Plan) (j : ℕ) → p .count ≡ count → p .thresholds ≡ now (ts .entry) → leftAt p j ≡ left → rightAt p j ≡ right → r ≡ bucketFits p j) ⌝ }
 {
     if right <= left {
         return false;
@@ -116,7 +116,7 @@ fn bucket_fits(ts: &[u32; COUNT_LIMIT], k: usize, left: u32, right: u32) -> bool
     if left == 0 && right == MILLION {
         return false;
     }
-    is_permitted(ts, k, left) && is_permitted(ts, k, right)
+    is_permitted(ts, count, left) && is_permitted(ts, count, right)
 }
 
 // Rule 5: each bucket fits. Judged after rule 1.
@@ -124,12 +124,12 @@ fn buckets_fit(p: Plan) -> bool
     requires { ⌜ (p .count ≤ countLimit) × (p .buckets ≤ bucketLimit) ⌝ }
     ensures { λ r. ⌜ r ≡ rule5 p ⌝ }
 {
-    let k = p.count as usize;
+    let count = p.count as usize;
     let buckets = p.buckets as usize;
     for j in 0..buckets {
         let left = p.left[j];
         let right = p.right[j];
-        if !bucket_fits(&p.thresholds, k, left, right) {
+        if !bucket_fits(&p.thresholds, count, left, right) {
             return false;
         }
     }

@@ -16,4 +16,4 @@ unfolding planF planFBytes encoded header thresholdEntries bucketEntries bucketO
     filled countIn bucketsIn planIn offsetsFit lengthFits formRefusal readRefusal decoded million allowanceLimit horizonLimit le?
     eq? allTo anyTo countsFit rule1 aboveBefore rule2 rule3 rule4 permitted bucketFits rule5 coveredAbove rule6 planRefusal damaged damages
     noPlan writeRefusal written bytesAfter
-trials = (refl, refl, refl, refl, refl, refl, refl, refl, refl, refl, refl)
+trials = (refl, refl, refl, refl, refl, refl, refl, refl, refl, refl, refl, refl)

@@ -3,6 +3,7 @@
 use bucket_test::Drawn;
 use bucket_test::drawing::begin;
 use bucket_test::drawing::draw;
+use console::line::LINE_BUFFER;
 use console::line::last_line;
 use console::program::PLAN_BUFFER;
 use plan::Plan;
@@ -17,7 +18,7 @@ fn trial(plan: &[u8], input: &[u8], words: &mut [u64]) {
         return;
     }
     let mut stored = [0u8; PLAN_BUFFER];
-    let mut line = [0u8; 64];
+    let mut line = [0u8; LINE_BUFFER];
     let k = console::program::load(plan, &mut stored);
     let n = console::program::serve(&stored[..k], fd, words, &mut line);
     io::write_all(libc::STDOUT_FILENO, &line[..n]);
@@ -32,10 +33,8 @@ fn after(p: Plan, d: Drawn, words: &mut [u64], bit: u8) -> Drawn {
 
 // One draw more to plan F, which five ones have ended: no program hands one over.
 fn after_the_end(d: u8) {
-    let mut bytes = [0u8; 44];
-    let fd = os::open_read(b"f.plan");
-    let n = io::read_full(fd, &mut bytes);
-    libc::close(fd);
+    let mut bytes = [0u8; PLAN_BUFFER];
+    let n = console::program::load(b"f.plan", &mut bytes);
     let got = read_plan(&bytes[..n]);
     let p = got.plan;
     let mut words = [0u64; WIDE];
@@ -46,7 +45,7 @@ fn after_the_end(d: u8) {
     let four = after(p, three, &mut words, 1);
     let ended = after(p, four, &mut words, 1);
     let again = after(p, ended, &mut words, d);
-    let mut out = [0u8; 64];
+    let mut out = [0u8; LINE_BUFFER];
     let len = last_line(p, again, &mut out);
     io::write_all(libc::STDOUT_FILENO, &out[..len]);
 }

@@ -18,7 +18,7 @@ mod Exact
 pub mod Meeting
 pub mod Chances
 pub mod WalkFacts
--- What the crate above cites of records and soundness.
+-- What `bucket_test` cites of records and soundness.
 pub mod SoundnessLaws
 pub mod RecordLaws
 -- What the loops of the code leave to do.

@@ -6,10 +6,10 @@ ghost use Prim.Native.Nat.{_≤_};
 ghost use Rattle.walk.specs.Units.{million, massLimit};
 ghost use Rattle.walk.specs.Mass.{massUp};
 
-// A unit in millionths of a unit, and the most that is less.
-const UNIT: u64 = MILLION as u64;
+// One unit in millionths of a unit, and the most that is less.
+const MILLIONTHS: u64 = MILLION as u64;
 
-const LESS: u64 = UNIT - 1;
+const ALMOST_ONE: u64 = MILLIONTHS - 1;
 
 // The mass that stays at a count with each draw 0 and the mass that comes from the count before with each draw 1: their sum is rounded
 // up once, so that no mass is lost. Live words are at most 2^43.
@@ -18,7 +18,7 @@ pub(crate) fn mass_up(a: u32, stay: u64, come: u64) -> u64
     ensures { λ r. ⌜ r ≡ massUp a stay come ⌝ }
 {
     let up = a as u64;
-    let stays = stay * (UNIT - up);
+    let stays = stay * (MILLIONTHS - up);
     let comes = come * up;
-    (stays + comes + LESS) / UNIT
+    (stays + comes + ALMOST_ONE) / MILLIONTHS
 }

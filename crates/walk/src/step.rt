@@ -12,7 +12,7 @@ ghost use Rattle.walk.specs.Record.{firstAbove, rowOf, recordOf, padded}
 ghost use Rattle.walk.specs.Soundness.{Steppable};
 
 // The first live count: the lower boundary plus one.
-fn first_live(lower: i32) -> u32
+fn first_above(lower: i32) -> u32
     requires { ⌜ (lower ≡ below (firstAbove lower)) × (firstAbove lower ≤ suc horizonLimit) ⌝ }
     ensures { λ r. ⌜ r ≡ firstAbove lower ⌝ }
 {
@@ -36,7 +36,7 @@ pub fn step(part: &mut [u64], w: Walked, a: u32, e: u64) -> Walked
         × (now (part .exit) ≡ padded (stepRow a e (rowOf w (now (part .entry))) .masses))
         ⌝ }
 {
-    let first = first_live(w.lower);
+    let first = first_above(w.lower);
     let n = (w.upper - first) as usize;
     spread(part, n, a);
     let m = n + 1;

@@ -34,14 +34,14 @@ mul-r c = omega (arith, c .before .before .before .before .pre)
 array-copy-out-r : tie.Need-array-copy-out-r Inv-loop μ-loop
 array-copy-out-r c = omega (arith, c .before .before .before .before .pre)
 
-open-and-wide-requires : tie.Need-open-and-wide-requires Inv-loop μ-loop
-open-and-wide-requires c κs = search needs
+wide-open-requires : tie.Need-wide-open-requires Inv-loop μ-loop
+wide-open-requires c κs = search needs
 
 returns : tie.Need-returns Inv-loop μ-loop
 unfolding anyWide
 returns c =
     sought-here true _ (c .before .before .before .before .loop .inv) (c .before .before .before .loop-test .taken)
-    (sym (c .before .open-and-wide .ensures) ∙ c .if1 .taken)
+    (sym (c .before .wide-open .ensures) ∙ c .if1 .taken)
 
 add-i : tie.Need-add-i Inv-loop μ-loop
 add-i c = omega (arith, c .before .before .before .before .before .before .before .pre)
@@ -52,7 +52,7 @@ loop-less c = omega arith
 loop-again : tie.Need-loop-again Inv-loop μ-loop
 loop-again c =
     sought-next true _ (c .before .before .before .before .loop .inv) (c .before .before .before .loop-test .taken)
-    (sym (c .before .open-and-wide .ensures) ∙ c .if1 .left)
+    (sym (c .before .wide-open .ensures) ∙ c .if1 .left)
 
 returns-2 : tie.Need-returns-2 Inv-loop μ-loop
 unfolding anyWide
@@ -68,7 +68,7 @@ any-wide-spec =
     loop-holds
     mul-r
     array-copy-out-r
-    open-and-wide-requires
+    wide-open-requires
     returns
     add-i
     loop-less

@@ -34,8 +34,8 @@ returns c =
     let r = c .before .before .before .plan-refusal in
     hands (begun-plan _ _ (r .result) (r .ensures) (c .before .before .if1 .taken)) (c .refused .ensures ∙ rw (c .before .no-state .ensures)) refl
 
-cast-parts : tie.Need-cast-parts
-cast-parts c = search needs
+cast-count : tie.Need-cast-count
+cast-count c = search needs
 
 mul-if2 : tie.Need-mul-if2
 mul-if2 c = search needs
@@ -52,8 +52,8 @@ returns-2 c =
     hands (begun-8 _ _ (good (c .before .before .before .before)) (words-do-not _ _ (c .before .before .if2 .taken)))
     (c .refused2 .ensures ∙ rw (c .before .no-state2 .ensures)) refl
 
-start-parts-requires : tie.Need-start-parts-requires
-start-parts-requires c κs = (places _ (good (c .before .before .before)) .0, long (c .before))
+start-words-requires : tie.Need-start-words-requires
+start-words-requires c κs = (places _ (good (c .before .before .before)) .0, long (c .before))
 
 start-state-requires : tie.Need-start-state-requires
 start-state-requires c κs = search needs
@@ -69,7 +69,7 @@ unfolding startWords
 returns-3 c =
     let l = c .before .before .before .before .before .before in
     hands (begun-0 _ _ (good (l .before .before)) (words-say _ _ .1 (long l))) (rw (c .answer-of .ensures, c .before .start-state .ensures))
-    (c .before .before .before .before .start-parts .ensures)
+    (c .before .before .before .before .start-words .ensures)
 
 pub begin-spec : {M : Type 1} → statement M
 begin-spec =
@@ -79,12 +79,12 @@ begin-spec =
     no-state-requires
     refused-requires
     returns
-    cast-parts
+    cast-count
     mul-if2
     no-state-requires-2
     refused-requires-2
     returns-2
-    start-parts-requires
+    start-words-requires
     start-state-requires
     answer-of-requires
     same-length

@@ -43,8 +43,8 @@ fits c = words-say _ _ .1 (long c)
 bit : (c : tie.Else4) → entry (at2 c) .args .d ≤ 1
 bit c = c .before .before .before .if3 .left
 
-over : (c : tie.After-ends) → let a = entry (c .before .before .before) .args in c .ends .result ≡ isEnding (answerOf (a .p) (a .s))
-over c = c .ends .ensures ∙ ap isEnding (c .before .answer-of .ensures)
+over : (c : tie.After-is-ending) → let a = entry (c .before .before .before) .args in c .is-ending .result ≡ isEnding (answerOf (a .p) (a .s))
+over c = c .is-ending .ensures ∙ ap isEnding (c .before .answer-of .ensures)
 
 open-yet : (c : tie.Else4) → let a = entry (at2 c) .args in isEnding (answerOf (a .p) (a .s)) ≡ false
 open-yet c = sym (over (c .before)) ∙ c .if4 .left
@@ -87,8 +87,8 @@ returns-3 c =
 answer-of-requires : tie.Need-answer-of-requires
 answer-of-requires c κs = places _ (good (c .before .before .before))
 
-ends-requires : tie.Need-ends-requires
-ends-requires c κs = search needs
+is-ending-requires : tie.Need-is-ending-requires
+is-ending-requires c κs = search needs
 
 refused-requires-4 : tie.Need-refused-requires-4
 refused-requires-4 c κs = search needs
@@ -146,7 +146,7 @@ draw-spec =
     refused-requires-3
     returns-3
     answer-of-requires
-    ends-requires
+    is-ending-requires
     refused-requires-4
     returns-4
     state-sound-requires

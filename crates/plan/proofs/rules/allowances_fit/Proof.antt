@@ -14,13 +14,13 @@ abbrev fits : Plan → ℕ → Bool
 fits p i = within 1 allowanceLimit (allowanceAt p i)
 
 abbrev Inv-loop : tie.InvT-loop
-Inv-loop p k i₀ i = Sought false (fits p) k i
+Inv-loop p count i₀ i = Sought false (fits p) count i
 
 abbrev μ-loop : tie.MeasureT-loop
-μ-loop p k i₀ i = k - i
+μ-loop p count i₀ i = count - i
 
-cast-k : tie.Need-cast-k Inv-loop μ-loop
-cast-k c = search needs
+cast-count : tie.Need-cast-count Inv-loop μ-loop
+cast-count c = search needs
 
 loop-holds : tie.Need-loop-holds Inv-loop μ-loop
 loop-holds c = sought-none false _
@@ -64,7 +64,7 @@ allowances-fit-spec =
     (tie.spec
     Inv-loop
     μ-loop
-    cast-k
+    cast-count
     loop-holds
     mul-x
     element-copy-out-x

@@ -9,13 +9,13 @@ use Rattle.plan.proofs.rules.buckets_fit.Statement.{statement}
 use Rattle.plan.proofs.rules.buckets_fit.Tie as tie
 
 abbrev Inv-loop : tie.InvT-loop
-Inv-loop p k buckets j₀ j = Sought false (bucketFits p) buckets j
+Inv-loop p count buckets j₀ j = Sought false (bucketFits p) buckets j
 
 abbrev μ-loop : tie.MeasureT-loop
-μ-loop p k buckets j₀ j = buckets - j
+μ-loop p count buckets j₀ j = buckets - j
 
-cast-k : tie.Need-cast-k Inv-loop μ-loop
-cast-k c = search needs
+cast-count : tie.Need-cast-count Inv-loop μ-loop
+cast-count c = search needs
 
 cast-buckets : tie.Need-cast-buckets Inv-loop μ-loop
 cast-buckets c = search needs
@@ -69,7 +69,7 @@ buckets-fit-spec =
     (tie.spec
     Inv-loop
     μ-loop
-    cast-k
+    cast-count
     cast-buckets
     loop-holds
     mul-left

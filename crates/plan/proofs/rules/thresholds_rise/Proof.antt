@@ -36,13 +36,13 @@ fit p zero h k = rw (within-reads 1 thresholdLimit (thresholdAt p 0) .1 (h, k))
 fit p (suc i) h k = rw (within-reads 1 thresholdLimit (thresholdAt p (suc i)) .1 (omega arith, k)) (le?-complete (suc (thresholdAt p i)) (thresholdAt p (suc i)) h)
 
 abbrev Inv-loop : tie.InvT-loop
-Inv-loop p k before₀ i₀ before i = (before ≡ beforeAt p i) × Sought false (fits p) k i
+Inv-loop p count before₀ i₀ before i = (before ≡ beforeAt p i) × Sought false (fits p) count i
 
 abbrev μ-loop : tie.MeasureT-loop
-μ-loop p k before₀ i₀ before i = k - i
+μ-loop p count before₀ i₀ before i = count - i
 
-cast-k : tie.Need-cast-k Inv-loop μ-loop
-cast-k c = search needs
+cast-count : tie.Need-cast-count Inv-loop μ-loop
+cast-count c = search needs
 
 loop-holds : tie.Need-loop-holds Inv-loop μ-loop
 loop-holds c = (refl, sought-none false _)
@@ -91,7 +91,7 @@ thresholds-rise-spec =
     (tie.spec
     Inv-loop
     μ-loop
-    cast-k
+    cast-count
     loop-holds
     mul-t
     element-copy-out-t

@@ -5,19 +5,19 @@ use Rattle.plan.specs.Plan.{rule4}
 use Rattle.plan.proofs.rules.times_fit.Statement.{statement}
 use Rattle.plan.proofs.rules.times_fit.Tie as tie
 
-in-range-requires : tie.Need-in-range-requires
-in-range-requires c κs = search needs
+within-requires : tie.Need-within-requires
+within-requires c κs = search needs
 
-in-range-requires-2 : tie.Need-in-range-requires-2
-in-range-requires-2 c κs = search needs
+within-requires-2 : tie.Need-within-requires-2
+within-requires-2 c κs = search needs
 
 returns : tie.Need-returns
 unfolding rule4 horizonLimit
-returns c = rw (← c .before .before .in-range .ensures, c .before .if1 .taken) (c .in-range2 .ensures)
+returns c = rw (← c .before .before .within .ensures, c .before .if1 .taken) (c .within2 .ensures)
 
 returns-2 : tie.Need-returns-2
 unfolding rule4
-returns-2 c = rw (← c .before .in-range .ensures, c .if1 .left)
+returns-2 c = rw (← c .before .within .ensures, c .if1 .left)
 
 pub times-fit-spec : {M : Type 1} → statement M
-times-fit-spec = tie.close (tie.spec in-range-requires in-range-requires-2 returns returns-2)
+times-fit-spec = tie.close (tie.spec within-requires within-requires-2 returns returns-2)

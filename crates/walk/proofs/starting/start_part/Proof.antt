@@ -1,5 +1,4 @@
 -- Zeros in every word; then the first is the whole mass.
-use mathlib.Core.Path.{refl}
 use native.Mathlib.Omega.{arith}
 use borrow.Author.Needs.{needs}
 use Rattle.walk.specs.Units.{M, wide}

@@ -9,11 +9,11 @@ use Rattle.walk.proofs.Parts.{order, early, lower-back, first-is, more,
 use Rattle.walk.proofs.step.step.Statement.{statement}
 use Rattle.walk.proofs.step.step.Tie as tie
 
-first-live-requires : tie.Need-first-live-requires
-first-live-requires c κs = let s = c .before .before .pre in rw (lower-back s) (s .signed, early s)
+first-above-requires : tie.Need-first-above-requires
+first-above-requires c κs = let s = c .before .before .pre in rw (lower-back s) (s .signed, early s)
 
 sub-n : tie.Need-sub-n
-sub-n c = let s = c .before .before .before .before .pre in omega (arith, first-is s (c .before .first-live .ensures), order s)
+sub-n c = let s = c .before .before .before .before .pre in omega (arith, first-is s (c .before .first-above .ensures), order s)
 
 cast-n : tie.Need-cast-n
 cast-n c = search needs
@@ -22,7 +22,7 @@ spread-requires : tie.Need-spread-requires
 unfolding rowOf
 spread-requires c κs =
     let s = c .before .before .before .before .before .pre in
-    let f = first-is s (c .before .before .first-live .ensures) in
+    let f = first-is s (c .before .before .first-above .ensures) in
     (omega (arith, f, s .size, s .narrow, order s), s .threshold, rw f (s .small))
 
 add-m : tie.Need-add-m
@@ -33,7 +33,7 @@ unfolding rowOf
 trim-requires c κs =
     let s = c .before .before .before .before .before .before .before .before .before .pre in
     let spread = c .before .before .before .spread in
-    let live = c .before .before .before .before .before .before .first-live in
+    let live = c .before .before .before .before .before .before .first-above in
     let f = first-is s (live .ensures) in
     omega (arith, f, spread .kept .0, s .size, s .narrow, order s, s .sound, more s (live .result) f (spread .last .0) (spread .ensures))
 
@@ -42,8 +42,8 @@ module _ (c : tie.After-trim) where
   abbrev start : tie.Start
   start = c .before .before .before .before .before .before .before .before .before .before
 
-  f-is : c .before .before .before .before .before .before .before .first-live .result ≡ firstAbove (start .args .w .lower)
-  f-is = first-is (start .pre) (c .before .before .before .before .before .before .before .first-live .ensures)
+  f-is : c .before .before .before .before .before .before .before .first-above .result ≡ firstAbove (start .args .w .lower)
+  f-is = first-is (start .pre) (c .before .before .before .before .before .before .before .first-above .ensures)
 
   fits : (c .trim .result .hi ≤ wide) × (c .trim .result .lo ≤ wide)
   fits = places-fit (start .pre) _ f-is _ (c .before .before .before .before .spread .ensures) _ _ (c .trim .ensures)
@@ -76,7 +76,7 @@ pub step-spec : {M : Type 1} → statement M
 step-spec =
     tie.close
     (tie.spec
-    first-live-requires
+    first-above-requires
     sub-n
     cast-n
     spread-requires

@@ -1,8 +1,8 @@
 -- The second test is made where the first holds.
 use borrow.Author.Tests.{le-leb, lt-leb}
 use Rattle.walk.specs.Numbers.{le?}
-use Rattle.plan.proofs.rules.in_range.Statement.{statement}
-use Rattle.plan.proofs.rules.in_range.Tie as tie
+use Rattle.plan.proofs.rules.within.Statement.{statement}
+use Rattle.plan.proofs.rules.within.Tie as tie
 
 returns : tie.Need-returns
 unfolding le?
@@ -12,5 +12,5 @@ returns-2 : tie.Need-returns-2
 unfolding le?
 returns-2 c = rw (lt-leb _ _ (c .if1 .left))
 
-pub in-range-spec : {M : Type 1} → statement M
-in-range-spec = tie.close (tie.spec returns returns-2)
+pub within-spec : {M : Type 1} → statement M
+within-spec = tie.close (tie.spec returns returns-2)

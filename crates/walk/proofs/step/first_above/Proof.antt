@@ -5,8 +5,8 @@ use lib.IntN.{natAbs}
 use Rattle.walk.specs.Units.{horizonLimit}
 use Rattle.walk.specs.Record.{firstAbove}
 use Rattle.walk.proofs.Signed.{next-sum, next-bits}
-use Rattle.walk.proofs.step.first_live.Statement.{statement}
-use Rattle.walk.proofs.step.first_live.Tie as tie
+use Rattle.walk.proofs.step.first_above.Statement.{statement}
+use Rattle.walk.proofs.step.first_above.Tie as tie
 
 add-result : tie.Need-add-result
 unfolding horizonLimit
@@ -19,5 +19,5 @@ cast-result c = rw (next-bits (c .args .lower) (firstAbove (c .args .lower)) (c 
 returns : tie.Need-returns
 returns c = ap natAbs (next-bits (c .args .lower) (firstAbove (c .args .lower)) (c .pre .0) (c .pre .1))
 
-pub first-live-spec : {M : Type 1} → statement M
-first-live-spec = tie.close (tie.spec add-result cast-result returns)
+pub first-above-spec : {M : Type 1} → statement M
+first-above-spec = tie.close (tie.spec add-result cast-result returns)

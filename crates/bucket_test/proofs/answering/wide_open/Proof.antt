@@ -1,7 +1,7 @@
 -- By cases on the mark.
 use borrow.Author.Needs.{needs}
-use Rattle.bucket_test.proofs.answering.open_and_wide.Statement.{statement}
-use Rattle.bucket_test.proofs.answering.open_and_wide.Tie as tie
+use Rattle.bucket_test.proofs.answering.wide_open.Statement.{statement}
+use Rattle.bucket_test.proofs.answering.wide_open.Tie as tie
 
 enum-told : tie.Need-enum-told
 enum-told c = search needs
@@ -24,7 +24,7 @@ returns-2 c = search needs
 returns-3 : tie.Need-returns-3
 returns-3 c = search needs
 
-pub open-and-wide-spec : {M : Type 1} → statement M
-open-and-wide-spec =
+pub wide-open-spec : {M : Type 1} → statement M
+wide-open-spec =
     tie.close
     (tie.spec enum-told is-wide-requires enum-told-2 enum-told-3 returns returns-2 returns-3)

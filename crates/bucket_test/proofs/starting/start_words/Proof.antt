@@ -9,8 +9,8 @@ use Rattle.walk.specs.Record.{startPart}
 use Rattle.plan.specs.Places.{joinTo}
 use Rattle.bucket_test.proofs.TurningLaws.{part-length, part-lent, words-none, words-all, part-put}
 use borrow.Author.Needs.{needs}
-use Rattle.bucket_test.proofs.starting.start_parts.Statement.{statement}
-use Rattle.bucket_test.proofs.starting.start_parts.Tie as tie
+use Rattle.bucket_test.proofs.starting.start_words.Statement.{statement}
+use Rattle.bucket_test.proofs.starting.start_words.Tie as tie
 
 abbrev startAt : ℕ → List ℕ
 startAt i = startPart
@@ -75,8 +75,8 @@ returns c =
     let l = c .before .loop in
     l .inv .3 ∙ words-all startAt (a .words .now) (a .count) (l .i) (c .before .before .before .pre .1) (omega arith)
 
-pub start-parts-spec : {M : Type 1} → statement M
-start-parts-spec =
+pub start-words-spec : {M : Type 1} → statement M
+start-words-spec =
     tie.close
     (tie.spec
     Inv-loop
