@@ -24,7 +24,7 @@ const TOLERANCE: f64 = 0.03;
 /// The published 13,837 is off: an independent simulation of 500,000 runs gave this, with a standard error of 46.
 const SIMULATED: f64 = 13_243.0;
 
-/// Runs of the simulation where p is low; elsewhere a quarter of it.
+/// Runs of the simulation where p is low; in each of the two ranges above, a quarter of these.
 const RUNS: u64 = 20_000;
 
 /// Above the largest threshold and its neighbourhood.
