@@ -1,6 +1,7 @@
 //! Random plans that keep the rules.
 
-use crate::draft::{two_buckets, Draft, LARGEST};
+use crate::draft::{two_buckets, Draft};
+use crate::plan::LARGEST_ALLOWANCE;
 use crate::rng::Rng;
 
 fn thresholds(rng: &mut Rng, count: usize) -> Vec<u32> {
@@ -30,13 +31,13 @@ fn thresholds(rng: &mut Rng, count: usize) -> Vec<u32> {
 
 fn allowances(rng: &mut Rng, count: usize, least: u64) -> Vec<u64> {
     let style = rng.below(6);
-    let same = rng.scale(least, LARGEST);
+    let same = rng.scale(least, LARGEST_ALLOWANCE);
     let one = |rng: &mut Rng| match style {
-        0 | 1 => rng.scale(least, LARGEST),
+        0 | 1 => rng.scale(least, LARGEST_ALLOWANCE),
         2 => same,
-        3 => rng.scale(least, (least * 1000).min(LARGEST)),
-        4 => rng.range(LARGEST / 2, LARGEST),
-        _ => rng.pick(&[least, least + 1, 4_398_046_511, 488_671_834, LARGEST - 1, LARGEST]),
+        3 => rng.scale(least, (least * 1000).min(LARGEST_ALLOWANCE)),
+        4 => rng.range(LARGEST_ALLOWANCE / 2, LARGEST_ALLOWANCE),
+        _ => rng.pick(&[least, least + 1, 4_398_046_511, 488_671_834, LARGEST_ALLOWANCE - 1, LARGEST_ALLOWANCE]),
     };
     (0..count).map(|_| one(rng)).collect()
 }

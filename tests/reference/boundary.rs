@@ -7,6 +7,9 @@
 use crate::plan::{MILLION, WHOLE};
 use std::collections::BTreeMap;
 
+/// A walk with so many live counts is wide.
+pub const WIDE: i64 = 769;
+
 /// Allowance spent by step n.
 pub fn spending(allowance: u128, delay: u128, n: u128) -> u128 {
     if n == 0 {
@@ -106,11 +109,12 @@ const NARROW: u64 = MILLION as u64;
 
 #[inline(always)]
 fn slipped(slip: Slip, stay: u64, rise: u64) -> u64 {
+    let up = |over: u64| (over + NARROW - 1) / NARROW;
     match slip {
         Slip::RoundDown => (stay + rise) / NARROW,
         Slip::RoundNearest => (stay + rise + NARROW / 2) / NARROW,
-        Slip::RoundApart => stay.div_ceil(NARROW) + rise.div_ceil(NARROW),
-        _ => (stay + rise).div_ceil(NARROW),
+        Slip::RoundApart => up(stay) + up(rise),
+        _ => up(stay + rise),
     }
 }
 

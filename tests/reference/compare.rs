@@ -16,10 +16,11 @@ use std::time::Instant;
 pub struct Setting {
     pub program: String,
     pub seed: u64,
-    pub threads: usize,
     pub keep: Option<String>,
 }
 
+/// Runs at a time.
+const THREADS: usize = 2;
 const SHOWN: usize = 5;
 /// Mismatches after which a program counts as wrong everywhere, and need not be run to the end.
 const MANY: u64 = 200;
@@ -89,7 +90,7 @@ fn prepare(setting: &Setting) -> Result<(PathBuf, PathBuf), String> {
 fn run_all(setting: &Setting, program: &Path, base: &Path) -> (Tally, bool) {
     let shared = Shared::default();
     let done = Arc::new(AtomicBool::new(false));
-    let slots: Vec<Watched> = (0..setting.threads).map(|_| Arc::new(Mutex::new(None))).collect();
+    let slots: Vec<Watched> = (0..THREADS).map(|_| Arc::new(Mutex::new(None))).collect();
     let watcher = {
         let (slots, done) = (slots.clone(), done.clone());
         std::thread::spawn(move || watch(slots, done))

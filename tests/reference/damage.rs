@@ -1,6 +1,7 @@
 //! Ways to damage a plan, its stored form and an input.
 
-use crate::draft::{Draft, LARGEST};
+use crate::draft::Draft;
+use crate::plan::LARGEST_ALLOWANCE;
 use crate::rng::Rng;
 
 fn put(bytes: &mut [u8], from: usize, size: usize, value: u64) {
@@ -49,7 +50,7 @@ pub fn allowance(rng: &mut Rng, draft: &mut Draft) {
     let now = draft.thresholds[i].1;
     draft.thresholds[i].1 = match rng.below(3) {
         0 => now | 1 << rng.range(32, 63),
-        _ => odd_number(rng, 8, &[1, LARGEST, LARGEST + 1, now]),
+        _ => odd_number(rng, 8, &[1, LARGEST_ALLOWANCE, LARGEST_ALLOWANCE + 1, now]),
     };
 }
 

@@ -1,10 +1,5 @@
 //! A plan before it is stored, and the plans that several checks use.
 
-use crate::plan::LARGEST_ALLOWANCE;
-
-/// The largest allowance.
-pub const LARGEST: u64 = LARGEST_ALLOWANCE as u64;
-
 /// A plan before it is stored; nothing in it need keep the rules.
 #[derive(Clone, Debug)]
 pub struct Draft {

@@ -1,24 +1,13 @@
 //! The published rule, equation (A.1), by exact fractions.
 
 use crate::big::Big;
-use crate::boundary::spending;
 use crate::plan::{MILLION, WHOLE};
 use crate::weights::Weights;
-
-/// Which limit the exact chances are held to.
-#[derive(Clone, Copy)]
-pub enum Limit {
-    /// allowance × n / (n + k) as it is.
-    Fraction,
-    /// The same rounded down to whole units.
-    RoundedDown,
-}
 
 /// Equation (A.1) with nothing rounded.
 pub struct Exact {
     allowance: u64,
     delay: u64,
-    limit: Limit,
     pub step: u64,
     pub upper: i64,
     pub lower: i64,
@@ -51,29 +40,19 @@ fn first_past<'a>(
 }
 
 impl Exact {
-    pub fn begin(at: u64, allowance: u64, delay: u64, limit: Limit) -> Exact {
+    pub fn begin(at: u64, allowance: u64, delay: u64) -> Exact {
         // In lowest terms the weights stay smaller.
         let divisor = common(at, MILLION as u64);
         let weights = Weights::begin(at / divisor, MILLION as u64 / divisor);
-        Exact { allowance, delay, limit, step: 0, upper: 1, lower: -1, weights }
-    }
-
-    /// The limit of this step as a weight, with the factor that clears its fraction.
-    fn limit_weight(&self) -> (Big, u64) {
-        let n = self.step;
-        match self.limit {
-            Limit::Fraction => (self.weights.whole.times(self.allowance * n), n + self.delay),
-            Limit::RoundedDown => {
-                let spent = spending(self.allowance as u128, self.delay as u128, n as u128);
-                (self.weights.whole.times(spent as u64), 1)
-            }
-        }
+        Exact { allowance, delay, step: 0, upper: 1, lower: -1, weights }
     }
 
     pub fn advance(&mut self) {
         self.step += 1;
         self.weights.advance();
-        let (limit, factor) = self.limit_weight();
+        // allowance × n / (n + k), times n + k on both sides.
+        let limit = self.weights.whole.times(self.allowance * self.step);
+        let factor = self.step + self.delay;
         let within = |weight: &Big| weight.times(WHOLE as u64).times(factor).at_most(&limit);
         self.upper = first_past(&self.weights.above, self.weights.live.iter().rev(), within) + 1;
         self.lower = first_past(&self.weights.below, self.weights.live.iter(), within) - 1;

@@ -2,12 +2,15 @@
 
 use crate::big::Big;
 use crate::draft::{star_plan, two_buckets, Draft, STAR_ALLOWANCE, STAR_DELAY, STAR_THRESHOLDS};
-use crate::exact::{Exact, Limit};
+use crate::exact::Exact;
 use crate::host::{self, Plan, State, OPEN};
 use crate::judge::PART;
 use crate::plan::WHOLE;
 use crate::table;
 use std::time::Instant;
+
+/// How far each threshold's boundaries are walked.
+const STEPS: u64 = 1000;
 
 /// A test of one threshold in the library that is never settled.
 struct Unsettled {
@@ -42,62 +45,57 @@ impl Unsettled {
 }
 
 /// A side's first difference must come from rounding alone: the library's boundary is the more cautious one, and the
-/// exact chance is within 769 units a step of the limit.
-fn from_rounding(exact: &Exact, met: &Big, cautious: bool) -> bool {
-    let n = exact.step;
-    let units = met.times(WHOLE as u64).over(&exact.weights.whole);
+/// exact chance is within `PART` units a step of the limit.
+fn from_rounding(rule: &Exact, met: &Big, cautious: bool) -> bool {
+    let n = rule.step;
+    let units = met.times(WHOLE as u64).over(&rule.weights.whole);
     let limit = STAR_ALLOWANCE as f64 * n as f64 / (n + STAR_DELAY as u64) as f64;
     println!("    exact chance {units:.1} units, limit {limit:.1}, left over {:.1}", limit - units);
-    cautious && limit - units < (769 * n) as f64
+    cautious && limit - units < (PART as u64 * n) as f64
 }
 
 /// One threshold's boundaries at every step: how many differ, and whether rounding accounts for it.
-fn boundaries_of(at: u32, steps: u64) -> Option<(u64, bool)> {
-    let exact = |limit| Exact::begin(at as u64, STAR_ALLOWANCE, STAR_DELAY as u64, limit);
-    let (mut fraction, mut down) = (exact(Limit::Fraction), exact(Limit::RoundedDown));
+fn boundaries_of(at: u32) -> Option<(u64, bool)> {
+    let mut rule = Exact::begin(at as u64, STAR_ALLOWANCE, STAR_DELAY as u64);
     let mut test = Unsettled::begin(at);
     let mut good = true;
     let (mut upper_same, mut lower_same) = (true, true);
-    let (mut by_fraction, mut by_down) = (0, 0);
+    let mut differ = 0;
     let mut last = (1, -1);
-    for n in 1..=steps {
+    for n in 1..=STEPS {
         let here = test.advance()?;
-        fraction.advance();
-        down.advance();
+        rule.advance();
         last = here;
-        let exact = (fraction.upper, fraction.lower);
-        by_down += ((down.upper, down.lower) != here) as u64;
-        if exact == here {
+        if (rule.upper, rule.lower) == here {
             continue;
         }
-        by_fraction += 1;
-        println!("  threshold {at}, step {n}: library (upper, lower) {here:?}, exact {exact:?}");
-        if here.0 != exact.0 && upper_same {
+        differ += 1;
+        println!("  threshold {at}, step {n}: library (upper, lower) {here:?}, exact {:?}", (rule.upper, rule.lower));
+        if here.0 != rule.upper && upper_same {
             upper_same = false;
-            good &= from_rounding(&fraction, &fraction.weights.above, here.0 > exact.0);
+            good &= from_rounding(&rule, &rule.weights.above, here.0 > rule.upper);
         }
-        if here.1 != exact.1 && lower_same {
+        if here.1 != rule.lower && lower_same {
             lower_same = false;
-            good &= from_rounding(&fraction, &fraction.weights.below, here.1 < exact.1);
+            good &= from_rounding(&rule, &rule.weights.below, here.1 < rule.lower);
         }
     }
-    let exact = format!("{}, {}", fraction.upper, fraction.lower);
-    let library = format!("{}, {}", last.0, last.1);
-    println!("{at:>10} {exact:>14} {library:>14} {by_fraction:>20} {by_down:>20}");
-    Some((by_fraction, good))
+    let pair = |upper: i64, lower: i64| format!("{upper}, {lower}");
+    println!("{at:>10} {:>14} {:>14} {differ:>8}", pair(rule.upper, rule.lower), pair(last.0, last.1));
+    Some((differ, good))
 }
 
-fn boundaries(steps: u64) -> bool {
-    println!("exact boundaries of equation (A.1), allowance {STAR_ALLOWANCE}/2^42 each, k = {STAR_DELAY}, steps 1 to {steps}");
-    println!("{:>10} {:>14} {:>14} {:>20} {:>20}", "threshold", "exact", "library", "differ, E a fraction", "differ, E rounded");
+fn boundaries() -> bool {
+    println!("exact boundaries of equation (A.1), allowance {STAR_ALLOWANCE}/2^42 each, k = {STAR_DELAY}, steps 1 to {STEPS}");
+    println!("{:>10} {:>14} {:>14} {:>8}", "threshold", "exact", "library", "differ");
     let mut good = true;
     let (mut compared, mut differences) = (0, 0);
     for at in STAR_THRESHOLDS {
-        let Some((differ, accounted)) = boundaries_of(at, steps) else {
+        let Some((differ, accounted)) = boundaries_of(at) else {
             println!("FAILED: the library's test of threshold {at} takes no draw that leaves it open");
             return false;
         };
-        compared += steps;
+        compared += STEPS;
         differences += differ;
         good &= accounted;
     }
@@ -111,11 +109,11 @@ fn boundaries(steps: u64) -> bool {
     good && 100 * differences <= compared
 }
 
-pub fn run(steps: u64, runs: u64, seed: u64) -> bool {
+pub fn run(seed: u64) -> bool {
     let began = Instant::now();
-    let same = boundaries(steps);
+    let same = boundaries();
     println!("({:.1} s)", began.elapsed().as_secs_f64());
-    let near = table::run(runs, seed);
+    let near = table::run(seed);
     println!("gandy: {}, {:.1} s", if same && near { "as expected" } else { "FAILED" }, began.elapsed().as_secs_f64());
     same && near
 }

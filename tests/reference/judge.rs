@@ -1,9 +1,11 @@
-//! What the rules settle of one call, for any plan, state, words and draw; with a walk of its own.
+//! What the rules settle of one call, for any plan, state, words and draw. Spending and walk are its own, to be
+//! independent of `boundary`.
 
 use crate::host::{draft_of, Plan, Record, Report, State};
 use crate::host::{ABOVE, AT_MOST, CROSSED, DECIDED, OPEN, REFUSED, SPENT, WIDE};
 use crate::plan::{read, Bucket, MILLION, WHOLE};
 
+/// Words of a part.
 pub const PART: usize = 769;
 pub const WORD_LIMIT: u128 = 1 << 43;
 
@@ -115,7 +117,7 @@ pub fn slacks(p: &Plan, s: &State, words: &[u64]) -> [Option<i128>; 14] {
         note(4, r.lower as i128 + 1);
         note(5, n + 1 - r.upper as i128);
         note(6, apart(r) - 2);
-        note(7, 770 - apart(r));
+        note(7, PART as i128 + 1 - apart(r));
         note(8, ones - r.lower as i128 - 1);
         note(9, r.upper as i128 - ones - 1);
         note(10, limit - r.over as i128);
@@ -144,7 +146,7 @@ pub fn walk(a: u128, limit: u128, t: i64, r: &mut Record, part: &mut [u64], faul
         true => part.get((s - lower - 1) as usize).copied().unwrap_or(0) as u128,
         false => 0,
     };
-    let mass = |s: &i64| (old(*s) * (MILLION - a) + old(*s - 1) * a).div_ceil(MILLION);
+    let mass = |s: &i64| (old(*s) * (MILLION - a) + old(*s - 1) * a + MILLION - 1) / MILLION;
     let new: Vec<u128> = counts.iter().map(mass).collect();
     let mut sums = vec![0u128];
     for mass in &new {

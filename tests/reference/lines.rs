@@ -10,7 +10,7 @@ const LONG: u64 = 1000;
 const LONG_NEEDED: u64 = 300;
 
 /// All that the program can print first.
-pub const REACHABLE: [&str; 13] = [
+const REACHABLE: [&str; 13] = [
     "open", "decided", "crossed", "wide", "spent", "refused 1", "refused 2", "refused 3", "refused 4",
     "refused 5", "refused 6", "refused 7", "refused 9",
 ];

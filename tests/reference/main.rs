@@ -34,66 +34,56 @@ mod weights;
 use std::process::exit;
 
 const USAGE: &str = "usage: reference COMMAND
-  check [--seed N]                     the reference against the rules' examples, no program
-  compare --program PATH [--seed N] [--threads N] [--keep DIR]
-                                       the program against the reference
-  gandy [--steps N] [--runs N] [--seed N]
-                                       the library's boundaries and the mean draws beside the published ones
-  spoiled [--seed N]                   the library's entries on spoiled states, against the reference";
-
-/// The value after each `--name` word.
-pub struct Words(Vec<String>);
-
-impl Words {
-    fn all(&self, name: &str) -> Vec<String> {
-        self.0.windows(2).filter(|w| w[0] == name).map(|w| w[1].clone()).collect()
-    }
-
-    fn number(&self, name: &str, otherwise: u64) -> u64 {
-        match self.all(name).last() {
-            None => otherwise,
-            Some(word) => word.parse().unwrap_or_else(|_| {
-                eprintln!("{name}: not a number: {word}");
-                exit(2)
-            }),
-        }
-    }
-}
+  check [--seed N]      the reference against the rules' examples, no program
+  compare --program PATH [--seed N] [--keep DIR]
+                        the program against the reference
+  gandy [--seed N]      the library's boundaries and the mean draws beside the published ones
+  spoiled [--seed N]    the library's entries on spoiled states, against the reference";
 
 const SEED: u64 = 20_251;
 
-fn usage() -> ! {
-    eprintln!("{USAGE}");
+fn usage(trouble: &str) -> ! {
+    eprintln!("{trouble}\n{USAGE}");
     exit(2)
 }
 
-fn compare_program(words: &Words, seed: u64) -> bool {
-    let Some(program) = words.all("--program").pop() else {
-        eprintln!("compare needs --program PATH");
-        exit(2)
-    };
-    compare::run(&compare::Setting {
-        program,
-        seed,
-        threads: words.number("--threads", 2).max(1) as usize,
-        keep: words.all("--keep").pop(),
-    })
+/// The value after each flag; no other flag is taken.
+fn values_of<const N: usize>(flags: [&str; N], words: &[String]) -> [Option<String>; N] {
+    let mut values = [(); N].map(|_| None);
+    for pair in words.chunks(2) {
+        match (flags.iter().position(|flag| *flag == pair[0]), pair.get(1)) {
+            (Some(place), Some(value)) => values[place] = Some(value.clone()),
+            (Some(_), None) => usage(&format!("{}: no value", pair[0])),
+            (None, _) => usage(&format!("{}: no such flag", pair[0])),
+        }
+    }
+    values
+}
+
+fn seed_of(word: Option<String>) -> u64 {
+    let number = |word: String| word.parse().unwrap_or_else(|_| usage(&format!("--seed: not a number: {word}")));
+    word.map_or(SEED, number)
+}
+
+fn compare_program(words: &[String]) -> bool {
+    let [seed, program, keep] = values_of(["--seed", "--program", "--keep"], words);
+    let program = program.unwrap_or_else(|| usage("compare needs --program PATH"));
+    compare::run(&compare::Setting { program, seed: seed_of(seed), keep })
 }
 
 fn main() {
-    let mut words: Vec<String> = std::env::args().skip(1).collect();
-    if words.is_empty() {
-        usage()
-    }
-    let command = words.remove(0);
-    let words = Words(words);
-    let seed = words.number("--seed", SEED);
+    let words: Vec<String> = std::env::args().skip(1).collect();
+    let (command, words) = words.split_first().unwrap_or_else(|| usage("no command"));
+    let seed = || {
+        let [seed] = values_of(["--seed"], words);
+        seed_of(seed)
+    };
     let good = match command.as_str() {
-        "check" => selfcheck::run(seed),
-        "compare" => compare_program(&words, seed),
-        "gandy" => gandy::run(words.number("--steps", 1000), words.number("--runs", 20_000), seed),
-        "spoiled" => spoiled::run(seed),
-        _ => usage(),
+        "check" => selfcheck::run(seed()),
+        "compare" => compare_program(words),
+        "gandy" => gandy::run(seed()),
+        "spoiled" => spoiled::run(seed()),
+        other => usage(&format!("{other}: no such command")),
     };
     exit(if good { 0 } else { 1 })
 }

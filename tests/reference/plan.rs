@@ -3,7 +3,7 @@
 /// The whole, in units of 1/2^42.
 pub const WHOLE: u128 = 4_398_046_511_104;
 pub const MILLION: u128 = 1_000_000;
-pub const LARGEST_ALLOWANCE: u128 = 2_199_023_255_551;
+pub const LARGEST_ALLOWANCE: u64 = 2_199_023_255_551;
 
 #[derive(Clone, Debug, PartialEq)]
 pub struct Threshold {
@@ -70,7 +70,7 @@ impl Plan {
     }
 
     fn allowance_bad(&self) -> bool {
-        self.thresholds.iter().any(|t| t.allowance < 1 || t.allowance > LARGEST_ALLOWANCE)
+        self.thresholds.iter().any(|t| t.allowance < 1 || t.allowance > LARGEST_ALLOWANCE as u128)
     }
 
     fn delay_or_horizon_bad(&self) -> bool {

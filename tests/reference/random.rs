@@ -2,8 +2,9 @@
 
 use crate::any_plan::{any_horizon, any_plan, buckets};
 use crate::case::{Case, Feed, PlanFile};
-use crate::draft::{star_plan, two_buckets, Draft, LARGEST};
+use crate::draft::{star_plan, two_buckets, Draft};
 use crate::draws::{chosen, draws, near, render, steer, Style};
+use crate::plan::LARGEST_ALLOWANCE;
 use crate::rng::Rng;
 use crate::sequential::Mark;
 
@@ -52,7 +53,7 @@ fn horizon_run(rng: &mut Rng, place: u64) -> Case {
             0.00005
         }
         _ => {
-            draft.thresholds = vec![(250_000, LARGEST), (750_000, 1 << 30)];
+            draft.thresholds = vec![(250_000, LARGEST_ALLOWANCE), (750_000, 1 << 30)];
             draft.buckets = vec![(0, 250_000), (250_000, 750_000), (750_000, 1_000_000)];
             draft.horizon = 20_000;
             0.74
@@ -118,7 +119,7 @@ fn crossing_draft(rng: &mut Rng) -> Draft {
     let outer = rng.range(1, 4_000);
     let inner = rng.range(40_000, 600_000);
     let far = inner + rng.range(1, inner / 3);
-    let free = rng.scale(1 << 37, LARGEST);
+    let free = rng.scale(1 << 37, LARGEST_ALLOWANCE);
     let firm = rng.scale(1 << 14, 1 << 30);
     let mut thresholds = vec![(outer as u32, 1), (inner as u32, free), (far as u32, firm)];
     let mut buckets = vec![(0, outer as u32), (outer as u32, 1_000_000)];

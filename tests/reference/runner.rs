@@ -49,7 +49,7 @@ fn feed(case: &Case, mut to: ChildStdin) -> Option<ChildStdin> {
 }
 
 /// An input whose reading fails, after the case's own input where it takes one; none for other cases.
-pub fn failing(case: &Case) -> std::io::Result<Option<OwnedFd>> {
+fn failing(case: &Case) -> std::io::Result<Option<OwnedFd>> {
     Ok(match case.feed {
         Feed::Folder => Some(File::open("/")?.into()),
         Feed::WriteOnly => Some(OpenOptions::new().write(true).open("/dev/null")?.into()),
@@ -62,6 +62,21 @@ pub fn failing(case: &Case) -> std::io::Result<Option<OwnedFd>> {
         }
         _ => None,
     })
+}
+
+/// The program started on the case's input, a pipe that is still to be fed where its reading need not fail.
+pub fn start(program: &Path, case: &Case, folder: &Path) -> std::io::Result<Child> {
+    let mut command = Command::new(program);
+    if case.feed == Feed::Closed {
+        command = Command::new("sh");
+        command.args(["-c", "exec \"$0\" <&-"]).arg(program);
+    }
+    command
+        .current_dir(folder)
+        .stdin(failing(case)?.map_or(Stdio::piped(), Stdio::from))
+        .stdout(Stdio::piped())
+        .stderr(Stdio::null())
+        .spawn()
 }
 
 /// The output, or how the program ended badly.
@@ -86,7 +101,7 @@ impl Runner<'_> {
 
     fn output_in(&self, case: &Case, folder: &Path) -> Result<Vec<u8>, String> {
         put_plan(&case.plan, &folder.join("plan")).map_err(|e| e.to_string())?;
-        let mut child = self.start(case, folder).map_err(|e| format!("cannot start the program: {e}"))?;
+        let mut child = start(self.program, case, folder).map_err(|e| format!("cannot start the program: {e}"))?;
         let to = child.stdin.take();
         let mut from = child.stdout.take().expect("piped");
         *self.slot.lock().unwrap() = Some((child, Instant::now()));
@@ -98,20 +113,6 @@ impl Runner<'_> {
         let status = child.wait().map_err(|e| e.to_string())?;
         read.map_err(|e| e.to_string())?;
         accepted(status, since, out)
-    }
-
-    fn start(&self, case: &Case, folder: &Path) -> std::io::Result<Child> {
-        let mut command = Command::new(self.program);
-        if case.feed == Feed::Closed {
-            command = Command::new("sh");
-            command.args(["-c", "exec \"$0\" <&-"]).arg(self.program);
-        }
-        command
-            .current_dir(folder)
-            .stdin(failing(case)?.map_or(Stdio::piped(), Stdio::from))
-            .stdout(Stdio::piped())
-            .stderr(Stdio::null())
-            .spawn()
     }
 }
 

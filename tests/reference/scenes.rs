@@ -69,7 +69,8 @@ pub fn good_plan(rng: &mut Rng) -> Plan {
 /// Boundaries, spent masses and words that pass refusal 11 after n draws with so many ones, and now and then wide.
 fn made_up_record(rng: &mut Rng, s: &State, limit: u64, part: &mut [u64]) -> Record {
     let (n, ones) = (s.n as i64, s.ones as i64);
-    let widest = rng.pick(&[769, 769, 769, 770]);
+    let wide = PART as i64 + 1;
+    let widest = rng.pick(&[wide - 1, wide - 1, wide - 1, wide]);
     let far = (ones - widest + 2).max(-1);
     let lower = if rng.chance(1, 3) { far } else { rng.range(0, (ones - 1 - far) as u64) as i64 + far };
     let most = (n + 1).min(lower + widest);
@@ -144,7 +145,8 @@ fn spoil_boundary(rng: &mut Rng, scene: &mut Scene, i: usize) {
     let (n, ones) = (scene.state.n, scene.state.ones);
     let r = &mut scene.state.records[i];
     let (lower, upper) = (r.lower as u32, r.upper);
-    let apart = rng.pick(&[1, 2, 769, 770, 771, 771]);
+    let wide = PART as u32 + 1;
+    let apart = rng.pick(&[1, 2, wide - 1, wide, wide + 1, wide + 1]);
     if rng.chance(1, 2) {
         let near = [-2, -1, i32::MIN, i32::MAX, ones.wrapping_sub(1) as i32, ones as i32];
         r.lower = if rng.chance(2, 3) { rng.pick(&near) } else { upper.wrapping_sub(apart) as i32 };
@@ -239,7 +241,7 @@ fn spoil_length(rng: &mut Rng, scene: &mut Scene) {
 fn spoil_plan(rng: &mut Rng, plan: &mut Plan, n: u32) {
     let i = rng.below(10) as usize;
     let j = rng.below(16) as usize;
-    let most = LARGEST_ALLOWANCE as u64;
+    let most = LARGEST_ALLOWANCE;
     match rng.below(9) {
         0 => plan.count = rng.pick(&[0, 1, 10, 11, u32::MAX]),
         1 => plan.buckets = rng.pick(&[1, 2, 16, 17, 0, u32::MAX]),

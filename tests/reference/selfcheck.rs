@@ -1,6 +1,7 @@
 //! The reference held to the rules' own examples and facts; no program is needed.
 
-use crate::boundary::{spending, Literal, Quick, Slip};
+use crate::boundary::{spending, Literal, Quick, Slip, WIDE};
+use crate::case::{Case, Feed};
 use crate::draft::{plan_f, star_plan, Draft};
 use crate::examples::{self, gap_plan, half_allowance_plan, largest_plan};
 use crate::host::Record;
@@ -9,14 +10,13 @@ use crate::lines::kind_of_line;
 use crate::plan::{read, LARGEST_ALLOWANCE, MILLION, WHOLE};
 use crate::random::{random_case, CROSSED_FROM, CROSSED_RUNS};
 use crate::rng::Rng;
-use crate::runner;
+use crate::runner::start;
 use crate::sequential::{program, program_with, Answer, Mark, Test};
 use crate::tally::{named, Counts};
 use crate::weights::Weights;
 use std::collections::BTreeMap;
-use std::fs::File;
-use std::io::Read;
-use std::os::fd::OwnedFd;
+use std::path::Path;
+use std::process::Child;
 use std::time::Instant;
 
 struct Report {
@@ -63,7 +63,7 @@ fn numbered(report: &mut Report) {
     let first = Literal::begin(400_000, thousandth, 1000).spread();
     report.check("P4", first == BTreeMap::from([(0, 2_638_827_906_663), (1, 1_759_218_604_442)]));
     report.check("P4", first.values().sum::<u128>() == WHOLE + 1);
-    let most = LARGEST_ALLOWANCE;
+    let most = LARGEST_ALLOWANCE as u128;
     report.check("P5", spending(most, 1, 1) == 1_099_511_627_775 && spending(most, 1, 2) == 1_466_015_503_700);
     report.check("P6", boundaries(400_000, most, 1, 3) == [(2, -1), (2, -1), (2, 0)]);
 
@@ -89,19 +89,13 @@ fn numbered(report: &mut Report) {
     report.check("the star plan keeps the rules", read(&star_plan().store()).is_ok());
 }
 
-/// The bytes of a descriptor up to its end, or up to an error.
-fn read_up(from: OwnedFd) -> (Vec<u8>, bool) {
-    let mut out = Vec::new();
-    let failed = File::from(from).read_to_end(&mut out).is_err();
-    (out, failed)
-}
-
-/// Inputs whose reading is to fail do so, after their bytes.
+/// Inputs whose reading is to fail do so, after their bytes: `cat` hands these on and says so.
 fn failing_reads(report: &mut Report) {
-    for e in examples::all() {
-        if let Ok(Some(from)) = runner::failing(&e.case) {
-            report.check(&format!("{}: reading fails", e.name), read_up(from) == (e.case.input, true));
-        }
+    let fails = |case: &Case| matches!(case.feed, Feed::Closed | Feed::Folder | Feed::WriteOnly | Feed::Reset);
+    for e in examples::all().iter().filter(|e| fails(&e.case)) {
+        let ended = start(Path::new("cat"), &e.case, Path::new(".")).and_then(Child::wait_with_output);
+        let failed = ended.is_ok_and(|out| out.stdout == e.case.input && out.status.code() == Some(1));
+        report.check(&format!("{}: reading fails", e.name), failed);
     }
 }
 
@@ -128,7 +122,7 @@ fn facts_of(report: &mut Report, at: u128, allowance: u128, delay: u128, steps: 
     let mut literal = Literal::begin(at, allowance, delay);
     let mut quick = Quick::begin(at, allowance, delay, Slip::None);
     let mut record = judge::FIRST;
-    // More than 769, for a walk past a wide step.
+    // More than `WIDE`, for a walk past a wide step.
     let mut words = vec![0; steps as usize + 2];
     words[0] = WHOLE as u64;
     let mut good = true;
@@ -145,7 +139,7 @@ fn facts_of(report: &mut Report, at: u128, allowance: u128, delay: u128, steps: 
             && quick.upper <= upper + 1
             && quick.lower >= lower
             && all >= WHOLE
-            && all <= WHOLE + 769 * t
+            && all <= WHOLE + WIDE as u128 * t
             && literal.spent_above <= spending(allowance, delay, t)
             && literal.spent_below <= spending(allowance, delay, t);
     }
@@ -158,13 +152,13 @@ fn facts(report: &mut Report, seed: u64) {
         let rng = &mut Rng::new(seed, 77_000 + round);
         let any = rng.range(1, 999_999);
         let at = rng.pick(&[1, 500, 50_000, 400_000, 500_000, 999_999, any]) as u128;
-        let allowance = rng.scale(1, LARGEST_ALLOWANCE as u64) as u128;
+        let allowance = rng.scale(1, LARGEST_ALLOWANCE) as u128;
         let delay = rng.scale(1, 65_535) as u128;
         facts_of(report, at, allowance, delay, if round < 4 { 400 } else { 150 });
     }
     facts_of(report, 50_000, 4_398_046_511, 1000, 2000);
     let spread = facts_of(report, 500_000, 1, 1, 800);
-    report.check("passes wide", spread.upper - spread.lower - 1 > 769);
+    report.check("passes wide", spread.upper - spread.lower - 1 > WIDE);
 }
 
 /// Exact weights of the strings that meet each boundary, against the spent masses.
@@ -182,7 +176,7 @@ fn chances_of(report: &mut Report, at: u64, allowance: u128, delay: u128) {
             let spent = weights.whole.times(spent as u64);
             good &= exact.at_most(&limit);
             good &= exact.at_most(&spent);
-            good &= spent.at_most(&exact.plus(&weights.whole.times(769 * n)));
+            good &= spent.at_most(&exact.plus(&weights.whole.times(WIDE as u64 * n)));
         }
     }
     report.check(&format!("chances for threshold {at}, allowance {allowance}, delay {delay}"), good);
@@ -192,7 +186,7 @@ fn chances(report: &mut Report, seed: u64) {
     for round in 0..12u64 {
         let rng = &mut Rng::new(seed, 88_000 + round);
         let at = rng.range(1, 999_999);
-        let allowance = rng.scale(1, LARGEST_ALLOWANCE as u64) as u128;
+        let allowance = rng.scale(1, LARGEST_ALLOWANCE) as u128;
         let delay = rng.scale(1, 3000) as u128;
         chances_of(report, at, allowance, delay);
     }

@@ -1,6 +1,6 @@
 //! The sequential test over a plan, and the program's line.
 
-use crate::boundary::{Literal, Quick, Slip};
+use crate::boundary::{Literal, Quick, Slip, WIDE};
 use crate::plan::{read, Plan, MILLION};
 
 #[derive(Clone, Copy, Debug, PartialEq)]
@@ -122,7 +122,7 @@ impl<'a> Test<'a> {
         if let Some(place) = self.plan.buckets.iter().position(|b| b.contains(low, high)) {
             return Answer::Decided(place + 1);
         }
-        let wide = |b: &Quick| b.upper - b.lower - 1 == 769;
+        let wide = |b: &Quick| b.upper - b.lower - 1 == WIDE;
         if self.boundaries.iter().zip(marks).any(|(b, m)| *m == Mark::Open && wide(b)) {
             return Answer::Wide;
         }

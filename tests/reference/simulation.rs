@@ -5,6 +5,7 @@ use crate::star::{ended, mark, nearest, Boundaries, Marks};
 use std::collections::BTreeMap;
 
 /// One run that has not ended.
+#[derive(Clone, Copy)]
 struct Run {
     place: usize,
     ones: i64,
@@ -21,10 +22,14 @@ fn draws_of(chances: &[f64], rng: &mut Rng, boundaries: &[Boundaries]) -> Vec<u6
         let mut moved = Vec::new();
         for (marks, runs) in open.iter_mut() {
             let (upper, lower) = nearest(marks, now);
-            for run in runs.iter_mut() {
+            runs.retain_mut(|run| {
                 run.ones += (rng.next() < run.limit) as i64;
-            }
-            moved.extend(runs.extract_if(.., |run| run.ones >= upper || run.ones <= lower).map(|run| (*marks, run)));
+                let stays = lower < run.ones && run.ones < upper;
+                if !stays {
+                    moved.push((*marks, *run));
+                }
+                stays
+            });
         }
         for (before, run) in moved {
             let marks = mark(&before, run.ones, now);

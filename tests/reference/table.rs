@@ -24,6 +24,9 @@ const TOLERANCE: f64 = 0.03;
 /// The published 13,837 is off: an independent simulation of 500,000 runs gave this, with a standard error of 46.
 const SIMULATED: f64 = 13_243.0;
 
+/// Runs of the simulation where p is low; in each of the two ranges above, a quarter of these.
+const RUNS: u64 = 20_000;
+
 /// Above the largest threshold and its neighbourhood.
 const NEXT: f64 = 0.06;
 
@@ -52,11 +55,11 @@ impl Row {
 }
 
 /// Of the first two distributions. Runs go where they tell most: draws are many, and differ most, where p is low.
-fn simulations(runs: u64, seed: u64, boundaries: &[Boundaries]) -> [Mean; 2] {
+fn simulations(seed: u64, boundaries: &[Boundaries]) -> [Mean; 2] {
     let rng = &mut Rng::new(seed, 5);
-    let low = simulated(0.0, LOW, runs, rng, boundaries);
-    let next = simulated(LOW, NEXT, runs / 4, rng, boundaries);
-    let rest = simulated(NEXT, 1.0, runs / 4, rng, boundaries);
+    let low = simulated(0.0, LOW, RUNS, rng, boundaries);
+    let next = simulated(LOW, NEXT, RUNS / 4, rng, boundaries);
+    let rest = simulated(NEXT, 1.0, RUNS / 4, rng, boundaries);
     let of = |share_of_low| {
         let scale = (1.0 - share_of_low) / (1.0 - LOW);
         mixed([share_of_low, (NEXT - LOW) * scale, (1.0 - NEXT) * scale], [low, next, rest])
@@ -64,14 +67,14 @@ fn simulations(runs: u64, seed: u64, boundaries: &[Boundaries]) -> [Mean; 2] {
     [of(LOW), of((1.0 + LOW) / 2.0)]
 }
 
-pub fn run(runs: u64, seed: u64) -> bool {
+pub fn run(seed: u64) -> bool {
     println!("mean number of draws of the star buckets, allowance {HALF_THOUSANDTH} units each, k = {STAR_DELAY}, no horizon");
     let began = Instant::now();
     let uniform = expectation(1.0, 1.0, None);
     let first = began.elapsed().as_secs_f64();
     let beta = expectation(0.5, 25.0, Some(&uniform.boundaries));
     let second = began.elapsed().as_secs_f64() - first;
-    let by_chance = simulations(runs, seed, &uniform.boundaries);
+    let by_chance = simulations(seed, &uniform.boundaries);
     let third = began.elapsed().as_secs_f64() - first - second;
     println!("every run ends by draw {}; took {first:.1} + {second:.1} + {third:.1} s", uniform.last);
     println!("{:<32}{:>12}{:>10}{:>22}", "distribution of p", "expectation", "Table 2", "simulated (+- s.e.)");
