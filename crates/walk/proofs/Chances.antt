@@ -33,7 +33,7 @@ chance-le x y n f g h = strings-le n _ _ (λ s l. go (f s) (g s) (weight x (y - 
     go false q w i = omega arith
 
 -- the first wide step, as a test and in words
-narrow-says : (a : ℕ) (E : ℕ → ℕ) (n : ℕ) → (noWideBefore? a E n ≡ true) ↔ NoWideBefore a E n
+pub narrow-says : (a : ℕ) (E : ℕ → ℕ) (n : ℕ) → (noWideBefore? a E n ≡ true) ↔ NoWideBefore a E n
 unfolding noWideBefore? NoWideBefore
 narrow-says a E zero = (λ e t l. absurd (omega arith), λ none. refl)
 narrow-says a E (suc n) = (
