@@ -26,7 +26,7 @@ use Rattle.bucket_test.specs.declared.State.{State}
 use Rattle.plan.specs.declared.Plan.{Plan}
 use Rattle.bucket_test.specs.declared.Drawn.{Drawn}
 use Rattle.bucket_test.specs.declared.Answer.the-variants.{Refused}
-use Rattle.plan.proofs.PlaceLaws.{eq?-fails, all-reads}
+use Rattle.plan.proofs.PlaceLaws.{all-reads}
 use Rattle.plan.proofs.AcceptedLaws.{accepted, threshold-ok, spends}
 use Rattle.bucket_test.proofs.AnsweringLaws.{not-over, thin-at}
 use Rattle.bucket_test.proofs.TurningLaws.{part-length}
@@ -92,10 +92,6 @@ pub hands : {o o′ : Outcome} → o ≡ o′ → {r : Drawn} {ws : List ℕ} �
 hands e p q = (p ∙ ap drawnOf (sym e), q ∙ ap (λ (o : Outcome). o .words) (sym e))
 
 module _ (p : Plan) (ws : List ℕ) where
-  pub words-do-not : ¬ (length ws ≡ wide * p .count) → wordsFit p ws ≡ false
-  unfolding wordsFit
-  words-do-not e = eq?-fails (length ws) (wide * p .count) e
-
   -- ---- the ways out of a beginning
 
   begun-by : (r : ℕ) → beginRefusal p ws ≡ r → begun p ws ≡ begunBy r p ws

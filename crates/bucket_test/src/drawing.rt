@@ -19,6 +19,7 @@ ghost use mathlib.Core.Bool.{true, false};
 ghost use Prim.Native.Nat.{_*_, _≤_};
 ghost use lib.ListN.{length};
 ghost use Rattle.walk.specs.Units.{wide};
+ghost use Rattle.plan.specs.Places.{eq?};
 ghost use Rattle.plan.specs.Plan.{planRefusal};
 ghost use Rattle.bucket_test.specs.Answers.{answerOf, isEnding};
 ghost use Rattle.bucket_test.specs.Draw.{drawnOf, begun, stateSound, nextState, nextWords, drawn, report};
@@ -34,6 +35,13 @@ fn refused(number: u32, s: State) -> Drawn
     }
 }
 
+// Refusal 8, of any numbers: so many words for so many thresholds.
+fn words_fit(count: u32, len: usize) -> bool
+    ensures { λ r. ⌜ r ≡ eq? len (wide * count) ⌝ }
+{
+    len == WIDE * count as usize
+}
+
 // Beginning: every part is written, unless the plan or the number of words is refused (rules 6.1). Any plan and any
 // words may be handed in.
 pub fn begin(p: Plan, words: &mut [u64]) -> Drawn
@@ -43,11 +51,10 @@ pub fn begin(p: Plan, words: &mut [u64]) -> Drawn
     if bad > 0 {
         return refused(bad, no_state());
     }
-    let count = p.count as usize;
-    if words.len() != WIDE * count {
+    if !words_fit(p.count, words.len()) {
         return refused(8, no_state());
     }
-    start_words(words, count);
+    start_words(words, p.count as usize);
     let state = start_state();
     let answer = answer_of(p, state);
     Drawn {
@@ -100,8 +107,7 @@ pub fn draw(p: Plan, s: State, words: &mut [u64], d: u8) -> Drawn
     if bad > 0 {
         return refused(bad, s);
     }
-    let count = p.count as usize;
-    if words.len() != WIDE * count {
+    if !words_fit(p.count, words.len()) {
         return refused(8, s);
     }
     if d > 1 {

@@ -11,7 +11,7 @@ use Rattle.bucket_test.specs.Answers.{answerOf, isEnding}
 use Rattle.bucket_test.specs.Draw.{stateSound}
 use Rattle.plan.proofs.PlaceLaws.{passed, failed}
 use Rattle.bucket_test.proofs.PartLaws.{words-say}
-use Rattle.bucket_test.proofs.DrawingLaws.{places, hands, words-do-not, drawn-plan, drawn-8, drawn-9, drawn-10, drawn-11, drawn-0}
+use Rattle.bucket_test.proofs.DrawingLaws.{places, hands, drawn-plan, drawn-8, drawn-9, drawn-10, drawn-11, drawn-0}
 use borrow.Author.Needs.{needs}
 use Rattle.bucket_test.proofs.drawing.draw.Statement.{statement}
 use Rattle.bucket_test.proofs.drawing.draw.Tie as tie
@@ -33,12 +33,12 @@ entry c = c .before .before .before .before .before
 good : (c : tie.Else1) → planRefusal (c .before .before .before .args .p) ≡ 0
 good c = omega (arith, c .before .plan-refusal .ensures)
 
-long : (c : tie.Else2) → let a = entry c .args in length (a .words .now) ≡ wide * a .p .count
-unfolding wide
-long c = c .if2 .left
-
 fits : (c : tie.Else2) → let a = entry c .args in wordsFit (a .p) (a .words .now) ≡ true
-fits c = words-say _ _ .1 (long c)
+unfolding wordsFit
+fits c = passed (c .before .words-fit .ensures) (c .if2 .left)
+
+long : (c : tie.Else2) → let a = entry c .args in length (a .words .now) ≡ wide * a .p .count
+long c = words-say _ _ .0 (fits c)
 
 bit : (c : tie.Else4) → entry (at2 c) .args .d ≤ 1
 bit c = c .before .before .before .if3 .left
@@ -63,18 +63,17 @@ returns c =
     let r = c .before .before .plan-refusal in
     hands (drawn-plan _ _ _ _ (r .result) (r .ensures) (c .before .if1 .taken)) (c .refused .ensures) refl
 
-cast-count : tie.Need-cast-count
-cast-count c = search needs
-
-mul-if2 : tie.Need-mul-if2
-mul-if2 c = search needs
+words-fit-requires : tie.Need-words-fit-requires
+words-fit-requires c κs = search needs
 
 refused-requires-2 : tie.Need-refused-requires-2
 refused-requires-2 c κs = search needs
 
 returns-2 : tie.Need-returns-2
-unfolding wide
-returns-2 c = hands (drawn-8 _ _ _ _ (good (c .before .before .before)) (words-do-not _ _ (c .before .if2 .taken))) (c .refused2 .ensures) refl
+unfolding wordsFit
+returns-2 c =
+    hands (drawn-8 _ _ _ _ (good (c .before .before .before)) (failed (c .before .before .words-fit .ensures) (c .before .if2 .taken)))
+    (c .refused2 .ensures) refl
 
 refused-requires-3 : tie.Need-refused-requires-3
 refused-requires-3 c κs = search needs
@@ -139,8 +138,7 @@ draw-spec =
     plan-refusal-requires
     refused-requires
     returns
-    cast-count
-    mul-if2
+    words-fit-requires
     refused-requires-2
     returns-2
     refused-requires-3
