@@ -27,8 +27,11 @@ openRecord w = record { mark = Open; walked = w }
 unfoldable pub startRecord : Threshold
 startRecord = openRecord startWalked
 
+abbrev pub noWalked : Walked
+noWalked = record { lower = pos 0; upper = 0; over = 0; under = 0 }
+
 abbrev pub noRecord : Threshold
-noRecord = openRecord (record { lower = pos 0; upper = 0; over = 0; under = 0 })
+noRecord = openRecord noWalked
 
 abbrev pub recordAt : State → ℕ → Threshold
 recordAt s i = getD (s .records) i noRecord

@@ -7,13 +7,14 @@ use crate::State;
 use crate::answering::answer_of;
 use crate::answering::interval_of;
 use crate::judging::state_sound;
-use crate::starting::no_state;
-use crate::starting::start_state;
+use crate::starting::no_walked;
 use crate::starting::start_words;
+use crate::starting::ten_of;
 use crate::turning::turn_all;
 use plan::Plan;
 use plan::rules::plan_refusal;
 use walk::WIDE;
+use walk::starting::start_walked;
 ghost use mathlib.Core.Path.{_≡_};
 ghost use mathlib.Core.Bool.{true, false};
 ghost use Prim.Native.Nat.{_*_, _≤_};
@@ -49,13 +50,13 @@ pub fn begin(p: Plan, words: &mut [u64]) -> Drawn
 {
     let bad = plan_refusal(p);
     if bad > 0 {
-        return refused(bad, no_state());
+        return refused(bad, ten_of(no_walked()));
     }
     if !words_fit(p.count, words.len()) {
-        return refused(8, no_state());
+        return refused(8, ten_of(no_walked()));
     }
     start_words(words, p.count as usize);
-    let state = start_state();
+    let state = ten_of(start_walked());
     let answer = answer_of(p, state);
     Drawn {
         answer: answer,

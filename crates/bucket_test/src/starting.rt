@@ -7,7 +7,6 @@ use walk::Mark;
 use walk::WIDE;
 use walk::Walked;
 use walk::starting::start_part;
-use walk::starting::start_walked;
 ghost use mathlib.Core.Path.{_≡_};
 ghost use Prim.Native.Nat.{_*_, _≤_};
 ghost use lib.ListN.{length};
@@ -15,11 +14,11 @@ ghost use Rattle.walk.specs.Units.{wide};
 ghost use Rattle.walk.specs.Record.{startPart};
 ghost use Rattle.plan.specs.Plan.{countLimit};
 ghost use Rattle.plan.specs.Places.{joinTo};
-ghost use Rattle.bucket_test.specs.Turn.{openRecord};
-ghost use Rattle.bucket_test.specs.Draw.{tenOf, startState, noState};
+ghost use Rattle.bucket_test.specs.Turn.{openRecord, noWalked};
+ghost use Rattle.bucket_test.specs.Draw.{tenOf};
 
 // A state before any draw: ten open records that stand so.
-fn ten_of(walked: Walked) -> State
+pub(crate) fn ten_of(walked: Walked) -> State
     ensures { λ r. ⌜ r ≡ tenOf (openRecord walked) ⌝ }
 {
     let mark = Mark::Open;
@@ -35,22 +34,16 @@ fn ten_of(walked: Walked) -> State
     }
 }
 
-pub(crate) fn start_state() -> State
-    ensures { λ r. ⌜ r ≡ startState ⌝ }
+// Where no walk stands: a refused beginning hands back zeros in every number, and open marks.
+pub(crate) fn no_walked() -> Walked
+    ensures { λ r. ⌜ r ≡ noWalked ⌝ }
 {
-    ten_of(start_walked())
-}
-
-// The state that a refused beginning hands back: zeros in every number, and open marks.
-pub(crate) fn no_state() -> State
-    ensures { λ r. ⌜ r ≡ noState ⌝ }
-{
-    ten_of(Walked {
+    Walked {
         lower: 0,
         upper: 0,
         over: 0,
         under: 0,
-    })
+    }
 }
 
 // Step 0 in each of so many parts.
