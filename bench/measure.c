@@ -1,4 +1,5 @@
-/* Runs two programs in turn on the same plan and draws, so often, and prints user time, draws per second, peak memory and their ratio.
+/* Runs two programs in turn on the same plan and draws, so often, and prints user time, draws per second, the least time of one run, peak
+   memory and the ratios. The least time says most: user time comes in ticks on some machines, and both grow with what else runs.
    measure PRODUCT YARDSTICK FOLDER RUNS: FOLDER holds `plan` and `draws`. */
 #include <fcntl.h>
 #include <stdio.h>
@@ -6,10 +7,11 @@
 #include <string.h>
 #include <sys/resource.h>
 #include <sys/wait.h>
+#include <time.h>
 #include <unistd.h>
 
 struct tally {
-    double seconds;
+    double seconds, least;
     long peak;
     char line[80];
 };
@@ -19,10 +21,17 @@ static void fail(const char *what) {
     exit(1);
 }
 
+static double now(void) {
+    struct timespec t;
+    if (clock_gettime(CLOCK_MONOTONIC, &t) != 0) fail("clock");
+    return t.tv_sec + t.tv_nsec / 1e9;
+}
+
 static void run(const char *program, struct tally *t) {
     int out[2], status;
     struct rusage used;
     if (pipe(out) != 0) fail("pipe");
+    double start = now();
     pid_t child = fork();
     if (child < 0) fail("fork");
     if (child == 0) {
@@ -35,13 +44,15 @@ static void run(const char *program, struct tally *t) {
     ssize_t n = read(out[0], t->line, sizeof t->line - 1);
     close(out[0]);
     if (wait4(child, &status, 0, &used) < 0 || status != 0 || n <= 0) fail(program);
+    double took = now() - start;
+    if (t->least == 0 || took < t->least) t->least = took;
     t->line[n] = 0;
     t->seconds += used.ru_utime.tv_sec + used.ru_utime.tv_usec / 1e6;
     if (used.ru_maxrss > t->peak) t->peak = used.ru_maxrss;
 }
 
 static void show(const char *name, const struct tally *t, double draws) {
-    printf("  %-9s user %8.3f s  %10.0f draws/s  peak %ld KB\n", name, t->seconds, draws / t->seconds, t->peak);
+    printf("  %-9s user %8.3f s  %10.0f draws/s  least %8.3f ms  peak %ld KB\n", name, t->seconds, draws / t->seconds, t->least * 1e3, t->peak);
 }
 
 int main(int argc, char **argv) {
@@ -63,6 +74,6 @@ int main(int argc, char **argv) {
     printf("%s, %d runs each: %s", argv[3], runs, product.line);
     show("vimorake", &product, (double)taken * runs);
     show("C", &yardstick, (double)taken * runs);
-    printf("  ratio of user time %.2f\n", product.seconds / yardstick.seconds);
+    printf("  ratio of user time %.2f, of the least time %.3f\n", product.seconds / yardstick.seconds, product.least / yardstick.least);
     return 0;
 }

@@ -94,7 +94,7 @@ module _ (p : Plan) (thresholds allowances left right : List ℕ)
 
   same : SameTest p q
   same = record {
-    refusal-same = rules .refusal-same;
+    rules-same = rules;
     answer-same = answer-same;
     report-same = report-same;
     begun-same = begun-same;

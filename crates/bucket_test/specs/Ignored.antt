@@ -2,8 +2,7 @@
 use mathlib.Core.Path.{_≡_}
 use mathlib.Core.List.{List}
 use Prim.Native.Nat.{ℕ}
-use Rattle.plan.specs.Plan.{planRefusal}
-use Rattle.plan.specs.SameCounted.{SameCounted}
+use Rattle.plan.specs.SameCounted.{SameCounted, SameRules}
 use Rattle.bucket_test.specs.Answers.{answerOf}
 use Rattle.bucket_test.specs.Draw.{begun, drawn, report}
 use Rattle.bucket_test.specs.declared.State.{State}
@@ -11,7 +10,7 @@ use Rattle.plan.specs.declared.Plan.{Plan}
 
 -- q stands for p in the rules, in the answer to a state, and in every call
 pub record SameTest (p q : Plan) : Type 0 where
-  pub refusal-same : planRefusal q ≡ planRefusal p
+  pub rules-same : SameRules p q
   pub answer-same : (s : State) → answerOf q s ≡ answerOf p s
   pub report-same : (s : State) → report q s ≡ report p s
   pub begun-same : (words : List ℕ) → begun q words ≡ begun p words
