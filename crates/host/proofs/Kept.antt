@@ -7,7 +7,11 @@ use Rattle.bucket_test.specs.declared.Answer.{Answer}
 use Rattle.bucket_test.specs.declared.Answer.the-variants as answers
 use Rattle.bucket_test.specs.declared.Threshold.{Threshold}
 use Rattle.bucket_test.specs.declared.Drawn.{Drawn}
+use Rattle.counting.specs.declared.Counted.{Counted}
+use Rattle.counting.specs.declared.Answer.{Answer as Count}
+use Rattle.counting.specs.declared.Answer.the-variants as counts
 use Rattle.host.specs.States.{markIn, markCase, markStep, answerIn, answerCase, answerNumber, recordIn, recordOut, drawnIn, drawnOut}
+use Rattle.host.specs.Runs.{countIn, countCase, countFirst, countSecond, countedIn, countedOut}
 
 mark-kept : (m : Mark) → markIn (markCase m) (markStep m) ≡ m
 mark-kept Open = refl
@@ -29,3 +33,12 @@ records-kept (t ∷ ts) = rw (mark-kept (t .mark), records-kept ts) refl
 pub kept : (d : Drawn) → drawnIn (drawnOut d) ≡ d
 unfolding drawnIn drawnOut
 kept d = rw (answer-kept (d .answer), records-kept (d .state .records)) refl
+
+count-kept : (a : Count) → countIn (countCase a) (countFirst a) (countSecond a) ≡ a
+count-kept counts.Open = refl
+count-kept (counts.Ended a b) = refl
+count-kept (counts.Refused r) = refl
+
+pub counted-kept : (c : Counted) → countedIn (countedOut c) ≡ c
+unfolding countedIn countedOut
+counted-kept c = rw (count-kept (c .answer)) refl

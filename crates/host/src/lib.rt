@@ -2,6 +2,7 @@
 // hands back comes out.
 
 mod plans;
+pub mod runs;
 mod states;
 
 use bucket_test::drawing::begin;
@@ -75,6 +76,18 @@ pub struct HostReport {
 pub struct HostWritten {
     pub refusal: u32,
     pub size: usize,
+}
+
+// A run of counting, with the answer of the call that handed it back: 0 open, 1 ended with first / second, 2 refused by the first.
+#[repr(C)]
+pub struct HostRun {
+    pub answer: u32,
+    pub first: u32,
+    pub second: u32,
+    pub stop: u32,
+    pub size: u32,
+    pub taken: u32,
+    pub ones: u32,
 }
 
 #[no_mangle]

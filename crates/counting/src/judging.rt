@@ -1,0 +1,59 @@
+// What a run is judged by, and its answer (rules 13.2, 13.3).
+
+use crate::Answer;
+use crate::Run;
+use crate::SIZE_LIMIT;
+ghost use mathlib.Core.Path.{_≡_};
+ghost use Prim.Native.Nat.{_≤_, _<_};
+ghost use Rattle.counting.specs.Run.{sizeLimit, sizesFit, hasEnded, isSound, answerOf};
+
+// 13, of any numbers.
+pub(crate) fn sizes_fit(stop: u32, size: u32) -> bool
+    ensures { λ r. ⌜ r ≡ sizesFit stop size ⌝ }
+{
+    if stop < 1 {
+        return false;
+    }
+    if size <= stop {
+        return false;
+    }
+    size <= SIZE_LIMIT
+}
+
+// 10. Judged after 13.
+pub(crate) fn has_ended(r: Run) -> bool
+    requires { ⌜ 1 ≤ r .size ⌝ }
+    ensures { λ b. ⌜ b ≡ hasEnded r ⌝ }
+{
+    if r.ones == r.stop {
+        return true;
+    }
+    r.taken == r.size - 1
+}
+
+// 11, of any run.
+pub(crate) fn is_sound(r: Run) -> bool
+    ensures { λ b. ⌜ b ≡ isSound r ⌝ }
+{
+    if r.size <= r.taken {
+        return false;
+    }
+    if r.stop < r.ones {
+        return false;
+    }
+    r.ones <= r.taken
+}
+
+// The answer to a run after a draw.
+pub(crate) fn answer_of(r: Run) -> Answer
+    requires { ⌜ (1 ≤ r .size) × (r .ones ≤ sizeLimit) ⌝ }
+    ensures { λ a. ⌜ a ≡ answerOf r ⌝ }
+{
+    if r.ones == r.stop {
+        return Answer::Ended(r.stop, r.taken);
+    }
+    if r.taken == r.size - 1 {
+        return Answer::Ended(r.ones + 1, r.size);
+    }
+    Answer::Open
+}

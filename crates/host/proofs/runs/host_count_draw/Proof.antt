@@ -1,0 +1,16 @@
+-- The outcome of the draw.
+use borrow.Author.Needs.{needs}
+use Rattle.host.proofs.runs.host_count_draw.Statement.{statement}
+use Rattle.host.proofs.runs.host_count_draw.Tie as tie
+
+draw-requires : tie.Need-draw-requires
+draw-requires c κs = search needs
+
+counted-out-requires : tie.Need-counted-out-requires
+counted-out-requires c κs = search needs
+
+returns : tie.Need-returns
+returns c = rw (← c .before .draw .ensures) (c .counted-out .ensures)
+
+pub host-count-draw-spec : {M : Type 1} → statement M
+host-count-draw-spec = tie.close (tie.spec draw-requires counted-out-requires returns)
