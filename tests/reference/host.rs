@@ -66,6 +66,23 @@ pub struct Written {
     pub size: usize,
 }
 
+pub const RUN_OPEN: u32 = 0;
+pub const RUN_ENDED: u32 = 1;
+pub const RUN_REFUSED: u32 = 2;
+
+/// Any run's record, behind the answer that came with it: `first` / `second`, or the number of a refusal and 0.
+#[repr(C)]
+#[derive(Clone, Copy, Debug, Default, PartialEq)]
+pub struct Run {
+    pub answer: u32,
+    pub first: u32,
+    pub second: u32,
+    pub stop: u32,
+    pub size: u32,
+    pub taken: u32,
+    pub ones: u32,
+}
+
 mod entries {
     use super::*;
 
@@ -78,6 +95,8 @@ mod entries {
         pub fn host_report_on(p: Plan, s: State) -> Report;
         pub fn host_read_plan(bytes: *const u8, len: usize) -> Plan;
         pub fn host_write_plan(p: Plan, bytes: *mut u8, len: usize) -> Written;
+        pub fn host_count_begin(h: u32, n: u32) -> Run;
+        pub fn host_count_draw(r: Run, d: u8) -> Run;
     }
 }
 
@@ -103,6 +122,15 @@ pub fn read_plan(bytes: &[u8]) -> Plan {
 
 pub fn write_plan(p: Plan, bytes: &mut [u8]) -> Written {
     unsafe { entries::host_write_plan(p, bytes.as_mut_ptr(), bytes.len()) }
+}
+
+pub fn count_begin(h: u32, n: u32) -> Run {
+    unsafe { entries::host_count_begin(h, n) }
+}
+
+/// Of the run only the record counts: its answer is not looked at.
+pub fn count_draw(r: Run, d: u8) -> Run {
+    unsafe { entries::host_count_draw(r, d) }
 }
 
 /// The draft's plan, with zeros past its counts.

@@ -1,10 +1,11 @@
-//! A separately written bucket test, and a runner that compares it with a program.
+//! A separately written bucket test and p-value by counting, and what compares them with a program and the library.
 
 mod any_plan;
 mod big;
 mod boundary;
 mod case;
 mod compare;
+mod counting;
 mod damage;
 mod damaged;
 mod draft;
@@ -15,7 +16,10 @@ mod expectation;
 mod gandy;
 mod host;
 mod judge;
+mod limits;
 mod lines;
+mod met;
+mod orders;
 mod outcomes;
 mod plan;
 mod random;
@@ -30,6 +34,7 @@ mod star;
 mod table;
 mod tally;
 mod weights;
+mod whole;
 
 use std::process::exit;
 
@@ -37,6 +42,7 @@ const USAGE: &str = "usage: reference COMMAND
   check [--seed N]      the reference against the rules' examples, no program
   compare --program PATH [--seed N] [--keep DIR]
                         the program against the reference
+  counting [--seed N]   the library's runs that count to a p-value, and their shares over all orders
   gandy [--seed N]      the library's boundaries and the mean draws beside the published ones
   spoiled [--seed N]    the library's entries on spoiled states, against the reference";
 
@@ -81,6 +87,7 @@ fn main() {
     let good = match command.as_str() {
         "check" => selfcheck::run(seed()),
         "compare" => compare_program(words),
+        "counting" => counting::run(seed()),
         "gandy" => gandy::run(seed()),
         "spoiled" => spoiled::run(seed()),
         other => usage(&format!("{other}: no such command")),

@@ -1,4 +1,6 @@
 -- The outcome of the draw.
+use mathlib.Core.Path.{ap, _∙_}
+use Rattle.host.specs.Runs.{countedOut}
 use borrow.Author.Needs.{needs}
 use Rattle.host.proofs.runs.host_count_draw.Statement.{statement}
 use Rattle.host.proofs.runs.host_count_draw.Tie as tie
@@ -10,7 +12,7 @@ counted-out-requires : tie.Need-counted-out-requires
 counted-out-requires c κs = search needs
 
 returns : tie.Need-returns
-returns c = rw (← c .before .draw .ensures) (c .counted-out .ensures)
+returns c = c .counted-out .ensures ∙ ap countedOut (c .before .draw .ensures)
 
 pub host-count-draw-spec : {M : Type 1} → statement M
 host-count-draw-spec = tie.close (tie.spec draw-requires counted-out-requires returns)
