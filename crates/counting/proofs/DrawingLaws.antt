@@ -54,10 +54,11 @@ sound-says r e =
 
 -- ---- of a run in range
 
-module _ (h n : ℕ) (ok : InRange h n) where
-  abbrev pub at : ℕ → ℕ → Run
-  at l g = record { stop = h; size = n; taken = l; ones = g }
+-- with l draws taken and g ones
+abbrev pub at : ℕ → ℕ → ℕ → ℕ → Run
+at h n l g = record { stop = h; size = n; taken = l; ones = g }
 
+module _ (h n : ℕ) (ok : InRange h n) where
   fits : sizesFit h n ≡ true
   unfolding sizesFit
   fits = rw (le-holds 1 h (ok .from-1), le-holds (suc h) n (ok .below), le-holds n sizeLimit (ok .at-most))
@@ -66,7 +67,7 @@ module _ (h n : ℕ) (ok : InRange h n) where
   unfolding begun
   begins = rw fits
 
-  pub ended-holds : (l g : ℕ) → (g ≡ h) ⊎ (suc l ≡ n) → hasEnded (at l g) ≡ true
+  pub ended-holds : (l g : ℕ) → (g ≡ h) ⊎ (suc l ≡ n) → hasEnded (at h n l g) ≡ true
   unfolding hasEnded
   ended-holds l g (inl e) = rw (eq-holds g h e)
   ended-holds l g (inr e) = go (eq? g h)
@@ -75,7 +76,7 @@ module _ (h n : ℕ) (ok : InRange h n) where
       go true = refl
       go false = eq-holds l (n - 1) (omega arith)
 
-  pub ended-fails : (l g : ℕ) → g < h → suc l < n → hasEnded (at l g) ≡ false
+  pub ended-fails : (l g : ℕ) → g < h → suc l < n → hasEnded (at h n l g) ≡ false
   unfolding hasEnded
   ended-fails l g gh ln = rw (eq-fails g h (λ e. omega arith), eq-fails l (n - 1) (λ e. omega arith))
 
@@ -85,7 +86,7 @@ module _ (h n : ℕ) (ok : InRange h n) where
     spent : g < h → suc l ≡ n → AnswerIs l g (Ended (g + 1) n)
     open-yet : g < h → suc l < n → AnswerIs l g Open
 
-  pub answer-is : (l g : ℕ) → g ≤ h → l < n → AnswerIs l g (answerOf (at l g))
+  pub answer-is : (l g : ℕ) → g ≤ h → l < n → AnswerIs l g (answerOf (at h n l g))
   unfolding answerOf
   answer-is l g gh ln = go (eq? g h) (eq-view g h) (eq? l (n - 1)) (eq-view l (n - 1))
     where
@@ -96,26 +97,26 @@ module _ (h n : ℕ) (ok : InRange h n) where
 
   -- a draw to a run that was carried to l draws with g ones
   pub data Turn (l g d : ℕ) : Counted → Type 0 where
-    refuses-9 : 1 < d → Turn l g d (refused 9 (at l g))
-    refuses-10 : d ≤ 1 → hasEnded (at l g) ≡ true → Turn l g d (refused 10 (at l g))
-    takes : d ≤ 1 → g < h → suc l < n → (a : Answer) → AnswerIs (l + 1) (g + d) a → Turn l g d (record { answer = a; run = at (l + 1) (g + d) })
+    refuses-9 : 1 < d → Turn l g d (refused 9 (at h n l g))
+    refuses-10 : d ≤ 1 → hasEnded (at h n l g) ≡ true → Turn l g d (refused 10 (at h n l g))
+    takes : d ≤ 1 → g < h → suc l < n → (a : Answer) → AnswerIs (l + 1) (g + d) a → Turn l g d (record { answer = a; run = at h n (l + 1) (g + d) })
 
-  sound : (l g : ℕ) → g ≤ h → g ≤ l → l < n → isSound (at l g) ≡ true
+  sound : (l g : ℕ) → g ≤ h → g ≤ l → l < n → isSound (at h n l g) ≡ true
   unfolding isSound
   sound l g gh gl ln = rw (le-holds (suc l) n ln, le-holds g h gh, le-holds g l gl)
 
   pub taken : (l g d : ℕ) → d ≤ 1 → g < h → g ≤ l → suc l < n
-      → drawn (at l g) d ≡ record { answer = answerOf (at (l + 1) (g + d)); run = at (l + 1) (g + d) }
-  taken l g d bit gh gl ln = drawn-0 (at l g) d fits bit (ended-fails l g gh ln) (sound l g (omega arith) gl (omega arith))
+      → drawn (at h n l g) d ≡ record { answer = answerOf (at h n (l + 1) (g + d)); run = at h n (l + 1) (g + d) }
+  taken l g d bit gh gl ln = drawn-0 (at h n l g) d fits bit (ended-fails l g gh ln) (sound l g (omega arith) gl (omega arith))
 
-  pub turn : (l g d : ℕ) → g ≤ h → g ≤ l → l < n → Turn l g d (drawn (at l g) d)
+  pub turn : (l g d : ℕ) → g ≤ h → g ≤ l → l < n → Turn l g d (drawn (at h n l g) d)
   turn l g d gh gl ln = go (le? d 1) (le-view d 1) (eq? g h) (eq-view g h) (eq? (suc l) n) (eq-view (suc l) n)
     where
-      over : d ≤ 1 → (g ≡ h) ⊎ (suc l ≡ n) → Turn l g d (drawn (at l g) d)
-      over bit e = let t = ended-holds l g e in rw (drawn-10 (at l g) d fits bit t) (refuses-10 bit t)
+      over : d ≤ 1 → (g ≡ h) ⊎ (suc l ≡ n) → Turn l g d (drawn (at h n l g) d)
+      over bit e = let t = ended-holds l g e in rw (drawn-10 (at h n l g) d fits bit t) (refuses-10 bit t)
 
-      go : (a : Bool) → Le? d 1 a → (b : Bool) → Eq? g h b → (c : Bool) → Eq? (suc l) n c → Turn l g d (drawn (at l g) d)
-      go false (gt p) b v c w = rw (drawn-9 (at l g) d fits p) (refuses-9 p)
+      go : (a : Bool) → Le? d 1 a → (b : Bool) → Eq? g h b → (c : Bool) → Eq? (suc l) n c → Turn l g d (drawn (at h n l g) d)
+      go false (gt p) b v c w = rw (drawn-9 (at h n l g) d fits p) (refuses-9 p)
       go true (le p) true (same e) c w = over p (inl e)
       go true (le p) false v true (same e) = over p (inr e)
       go true (le p) false (other e) false (other f) =

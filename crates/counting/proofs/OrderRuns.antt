@@ -19,11 +19,11 @@ use Rattle.counting.proofs.Firsts.{first, among}
 module _ (h n : ℕ) (ok : InRange h n) (x : ℕ) where
   -- the draws of the shuffles s beside the real result x, to a run that has taken l draws with g ones
   rest : List ℕ → ℕ → ℕ → Answer
-  rest s l g = ending (at h n ok l g) (map (λ y. one (le? x y)) s)
+  rest s l g = ending (at h n l g) (map (λ y. one (le? x y)) s)
 
   -- one more shuffle
   step : (y : ℕ) (s : List ℕ) (l g : ℕ) → g < h → g ≤ l → suc l < n
-      → rest (y ∷ s) l g ≡ orLater (answerOf (at h n ok (l + 1) (g + one (le? x y)))) (rest s (l + 1) (g + one (le? x y)))
+      → rest (y ∷ s) l g ≡ orLater (answerOf (at h n (l + 1) (g + one (le? x y)))) (rest s (l + 1) (g + one (le? x y)))
   unfolding rest ending
   step y s l g gh gl ln = rw (taken h n ok l g (one (le? x y)) (one-small (le? x y)) gh gl ln)
 

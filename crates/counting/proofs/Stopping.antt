@@ -34,14 +34,14 @@ no-bit d h (inr e) = omega arith
 module _ (h n : ℕ) (ok : InRange h n) where
   -- from l draws with g ones the run came to e with the draws s, and was ended by a
   record Comes (l g : ℕ) (e : Run) (s : List ℕ) (a : Answer) : Type 0 where
-    stands : e ≡ at h n ok (l + length s) (g + ones s)
+    stands : e ≡ at h n (l + length s) (g + ones s)
     few : g + ones s ≤ h
     fewer : g + ones s ≤ l + length s
     early : l + length s < n
-    ended : (hasEnded (at h n ok l g) || isEnded a) ≡ hasEnded e
+    ended : (hasEnded (at h n l g) || isEnded a) ≡ hasEnded e
 
-  at-same : {l l′ g g′ : ℕ} → l ≡ l′ → g ≡ g′ → at h n ok l g ≡ at h n ok l′ g′
-  at-same e f = ap₂ {C = Run} (λ (l g : ℕ). at h n ok l g) e f
+  at-same : {l l′ g g′ : ℕ} → l ≡ l′ → g ≡ g′ → at h n l g ≡ at h n l′ g′
+  at-same e f = ap₂ {C = Run} (λ (l g : ℕ). at h n l g) e f
 
   -- one more draw before these
   further : (l g d : ℕ) (e : Run) (s : List ℕ) → d ≤ 1 → g < h → suc l < n → (a x : Answer) → AnswerIs h n ok (l + 1) (g + d) a
@@ -54,13 +54,13 @@ module _ (h n : ℕ) (ok : InRange h n) where
     ended = rw (ended-fails h n ok l g gh ln) (go a v (c .ended));
   }
     where
-      go : (a : Answer) → AnswerIs h n ok (l + 1) (g + d) a → (hasEnded (at h n ok (l + 1) (g + d)) || isEnded x) ≡ hasEnded e → isEnded (orLater a x) ≡ hasEnded e
+      go : (a : Answer) → AnswerIs h n ok (l + 1) (g + d) a → (hasEnded (at h n (l + 1) (g + d)) || isEnded x) ≡ hasEnded e → isEnded (orLater a x) ≡ hasEnded e
       go _ (stopped p) q = rw (ended-holds h n ok (l + 1) (g + d) (inl p)) at q
       go _ (spent p r) q = rw (ended-holds h n ok (l + 1) (g + d) (inr (omega arith))) at q
       go _ (open-yet p r) q = rw (ended-fails h n ok (l + 1) (g + d) p (omega arith)) at q
 
   comes : (ds : List ℕ) (l g : ℕ) → g ≤ h → g ≤ l → l < n
-      → Comes l g (after (at h n ok l g) ds) (drawsTaken (at h n ok l g) ds) (ending (at h n ok l g) ds)
+      → Comes l g (after (at h n l g) ds) (drawsTaken (at h n l g) ds) (ending (at h n l g) ds)
   unfolding after drawsTaken ending
   comes [] l g gh gl ln = record {
     stands = at-same (omega arith) (omega arith);
@@ -69,10 +69,10 @@ module _ (h n : ℕ) (ok : InRange h n) where
     early = omega arith;
     ended = or-false _;
   }
-  comes (d ∷ ds) l g gh gl ln = go (drawn (at h n ok l g) d) (turn h n ok l g d gh gl ln) (comes ds)
+  comes (d ∷ ds) l g gh gl ln = go (drawn (at h n l g) d) (turn h n ok l g d gh gl ln) (comes ds)
     where
       go : (c : Counted) → Turn h n ok l g d c
-          → ((l g : ℕ) → g ≤ h → g ≤ l → l < n → Comes l g (after (at h n ok l g) ds) (drawsTaken (at h n ok l g) ds) (ending (at h n ok l g) ds))
+          → ((l g : ℕ) → g ≤ h → g ≤ l → l < n → Comes l g (after (at h n l g) ds) (drawsTaken (at h n l g) ds) (ending (at h n l g) ds))
           → Comes l g (after (c .run) ds) (takenBy (c .answer) d (drawsTaken (c .run) ds)) (orLater (c .answer) (ending (c .run) ds))
       go _ (refuses-9 p) rest = rest l g gh gl ln
       go _ (refuses-10 p q) rest = rest l g gh gl ln
@@ -84,7 +84,7 @@ module _ (h n : ℕ) (ok : InRange h n) where
           taking _ (open-yet t u) c = c
 
   -- the answer to a draw, by where the run stands
-  answers : (s : List ℕ) (ended : Bool) (d : ℕ) (c : Counted) → ended ≡ hasEnded (at h n ok (length s) (ones s))
+  answers : (s : List ℕ) (ended : Bool) (d : ℕ) (c : Counted) → ended ≡ hasEnded (at h n (length s) (ones s))
       → Turn h n ok (length s) (ones s) d c → AnswersDraw h n s ended d (c .answer)
   answers s ended d _ e (refuses-9 p) = record {
     by-9 = (λ q. no-bit d p, λ q. refl);
@@ -134,7 +134,7 @@ module _ (h n : ℕ) (ok : InRange h n) where
   from-start : (ds : List ℕ) → Comes 0 0 (after (startRun h n) ds) (drawsTaken (startRun h n) ds) (ending (startRun h n) ds)
   from-start ds = comes ds 0 0 (omega arith) (omega arith) (omega (arith, ok .below))
 
-  stands-at : (ds : List ℕ) → after (startRun h n) ds ≡ at h n ok (length (drawsTaken (startRun h n) ds)) (ones (drawsTaken (startRun h n) ds))
+  stands-at : (ds : List ℕ) → after (startRun h n) ds ≡ at h n (length (drawsTaken (startRun h n) ds)) (ones (drawsTaken (startRun h n) ds))
   stands-at ds = from-start ds .stands ∙ at-same (omega arith) (omega arith)
 
   answers-from : (ds : List ℕ) (d : ℕ)
