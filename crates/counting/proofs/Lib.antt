@@ -1,7 +1,9 @@
--- Tests, and the ways out of a draw.
+-- Tests, and one call in words.
 mod TestLaws
-mod DrawingLaws
+mod JudgingLaws
+pub mod OneCall
 -- A run over a list of draws.
+mod Carried
 pub mod Stopping
 -- All orders: sums over picks, each order once, the first result's rank.
 mod Picks

@@ -6,8 +6,8 @@ use Prim.Native.Nat.{ℕ, zero, suc, _+_, _≤_, _<_}
 use native.Mathlib.Omega.{arith}
 use lib.ListN.{length}
 use Rattle.counting.specs.Tests.{eq?, same?, one, howMany}
-use Rattle.counting.specs.Orders.{Different, OrderOf, Pick, picks, ordersOf, orders, AllOrders}
-use Rattle.counting.proofs.TestLaws.{Eq?, same, other, eq-view, eq-holds}
+use Rattle.counting.specs.Orders.{Different, downFrom, OrderOf, Pick, picks, ordersOf, orders, AllOrders}
+use Rattle.counting.proofs.TestLaws.{Eq?, same, other, eq-view, eq-holds, eq-fails}
 use Rattle.counting.proofs.Picks.{Parts, Has, sumOver, many-orders, many-append, many-cong, many-none, orders-cong, orders-number, picks-cong, picks-last, others-length, others-differ, has-length}
 
 same-eq : (a b : List ℕ) → same? a b ≡ true → a ≡ b
@@ -121,3 +121,21 @@ order-length xs o d order = go (eq? (length o) (length xs)) (eq-view (length o) 
     go true (same e) = e
     go false (other f) =
         absurd (omega (arith, once (length xs) xs refl d o order, none-same xs o (λ p has e. f (ap length e ∙ has-length p xs has))))
+
+-- ---- n different results
+
+none-above : (n x : ℕ) → n < x → howMany (eq? x) (downFrom n) ≡ 0
+none-above zero x h = refl
+none-above (suc n) x h = rw (eq-fails x (suc n) (λ e. omega arith), none-above n x (omega arith))
+
+pub down-differ : (n : ℕ) → Different (downFrom n)
+down-differ zero = record { once = λ x. omega arith }
+down-differ (suc n) = record { once = λ x. go x (eq? x (suc n)) (eq-view x (suc n)) (down-differ n .once x) }
+  where
+    go : (x : ℕ) (b : Bool) → Eq? x (suc n) b → howMany (eq? x) (downFrom n) ≤ 1 → one b + howMany (eq? x) (downFrom n) ≤ 1
+    go x true (same e) r = omega (arith, none-above n x (omega arith))
+    go x false v r = omega arith
+
+pub down-length : (n : ℕ) → length (downFrom n) ≡ n
+down-length zero = refl
+down-length (suc n) = omega (arith, down-length n)

@@ -7,39 +7,41 @@ use native.Mathlib.Nat.{mul-le-mul, mul-le-mul-right, mul-lt-mul-of-pos-left, le
 use native.Mathlib.Omega.{arith}
 use lib.ListN.{length, take, getD}
 use Rattle.counting.specs.Tests.{le?, one, howMany}
-use Rattle.counting.specs.Run.{answerOf, begun}
-use Rattle.counting.specs.Stopping.{orLater, ending, InRange}
-use Rattle.counting.specs.Share.{draws, answerTo, atMost, Value, at-stop, at-size, Ends}
+use Rattle.counting.specs.Run.{answerOf, runOf, begun}
+use Rattle.counting.specs.Stopping.{orLater, ending}
+use Rattle.counting.specs.OneCall.{InRange}
+use Rattle.counting.specs.Share.{draws, answerTo, atMost, Value, by-stop, by-size, Ends}
 use Rattle.counting.specs.declared.Answer.{Answer}
 use Rattle.counting.specs.declared.Answer.the-variants.{Open, Ended, Refused}
 use Rattle.counting.proofs.TestLaws.{le-holds, le-fails, le-same, one-small}
-use Rattle.counting.proofs.DrawingLaws.{at, begins, AnswerIs, stopped, spent, open-yet, answer-is, taken}
+use Rattle.counting.proofs.OneCall.{one-call}
+use Rattle.counting.proofs.Carried.{AnswerIs, stopped, spent, going, answer-is, taken}
 use Rattle.counting.proofs.Firsts.{first, among}
 
 module _ (h n : ℕ) (ok : InRange h n) (x : ℕ) where
   -- the draws of the shuffles s beside the real result x, to a run that has taken l draws with g ones
   rest : List ℕ → ℕ → ℕ → Answer
-  rest s l g = ending (at h n l g) (map (λ y. one (le? x y)) s)
+  rest s l g = ending (runOf h n l g) (map (λ y. one (le? x y)) s)
 
   -- one more shuffle
   step : (y : ℕ) (s : List ℕ) (l g : ℕ) → g < h → g ≤ l → suc l < n
-      → rest (y ∷ s) l g ≡ orLater (answerOf (at h n (l + 1) (g + one (le? x y)))) (rest s (l + 1) (g + one (le? x y)))
+      → rest (y ∷ s) l g ≡ orLater (answerOf (runOf h n (l + 1) (g + one (le? x y)))) (rest s (l + 1) (g + one (le? x y)))
   unfolding rest ending
   step y s l g gh gl ln = rw (taken h n ok l g (one (le? x y)) (one-small (le? x y)) gh gl ln)
 
   -- ---- with n - 1 shuffles the run ends, with a value
 
-  answered : (l g : ℕ) (a r : Answer) → g ≤ l → l < n → AnswerIs h n ok l g a → (g < h → suc l < n → Ends h n r) → Ends h n (orLater a r)
-  answered l g _ r gl ln (stopped p) f = record { numerator = h; denominator = l; answered = refl; value = at-stop refl (omega arith) ln }
-  answered l g _ r gl ln (spent p q) f = record { numerator = g + 1; denominator = n; answered = refl; value = at-size (omega arith) (omega arith) refl }
-  answered l g _ r gl ln (open-yet p q) f = f p q
+  answered-at : (l g : ℕ) (a r : Answer) → g ≤ l → l < n → AnswerIs h n ok l g a → (g < h → suc l < n → Ends h n r) → Ends h n (orLater a r)
+  answered-at l g _ r gl ln (stopped p) f = record { numerator = h; denominator = l; is = refl; value = by-stop refl (omega arith) ln }
+  answered-at l g _ r gl ln (spent p q) f = record { numerator = g + 1; denominator = n; is = refl; value = by-size (omega arith) (omega arith) refl }
+  answered-at l g _ r gl ln (going p q) f = f p q
 
   ends-at : (s : List ℕ) (l g : ℕ) → g < h → g ≤ l → suc l < n → length s + suc l ≡ n → Ends h n (rest s l g)
   ends-at [] l g gh gl ln t = absurd (omega arith)
   ends-at (y ∷ s) l g gh gl ln t =
       let small = one-small (le? x y) in
       rw (step y s l g gh gl ln)
-      (answered (l + 1) (g + one (le? x y)) _ _ (omega arith) (omega arith) (answer-is h n ok (l + 1) (g + one (le? x y)) (omega arith) (omega arith))
+      (answered-at (l + 1) (g + one (le? x y)) _ _ (omega arith) (omega arith) (answer-is h n ok (l + 1) (g + one (le? x y)) (omega arith) (omega arith))
       (λ p q. ends-at s (l + 1) (g + one (le? x y)) p (omega arith) q (omega arith)))
 
   -- ---- whether it is at most j / (m + 1): a value, so j is h unless m + 1 is n
@@ -50,7 +52,7 @@ module _ (h n : ℕ) (ok : InRange h n) (x : ℕ) where
         → atMost j (suc m) (orLater a r) ≡ true
     late l g _ r ml ln (stopped p) f = le-holds _ _ (mul-le-mul (omega (arith, whole (omega arith))) (omega arith))
     late l g _ r ml ln (spent p q) f = le-holds _ _ (mul-le-mul (omega (arith, whole (omega arith))) (omega arith))
-    late l g _ r ml ln (open-yet p q) f = f p q
+    late l g _ r ml ln (going p q) f = f p q
 
     -- .. and up to m draws the h-th one gives a larger one; w of the shuffles left of the first m are at least the real result
     early : (l g w : ℕ) (a r : Answer) → l ≤ m → (suc l ≡ n → w ≡ 0) → AnswerIs h n ok l g a
@@ -61,7 +63,7 @@ module _ (h n : ℕ) (ok : InRange h n) (x : ℕ) where
     early l g w _ r lm none (spent p q) f =
         let z : n ≡ suc m = omega arith in
         rw z (le-same _ _ _ _ (λ t. let c = le-of-mul-le-mul-right t (omega arith) in omega (arith, none q)) (λ t. mul-le-mul-right (suc m) (omega (arith, none q))))
-    early l g w _ r lm none (open-yet p q) f = f p q
+    early l g w _ r lm none (going p q) f = f p q
 
     empty : (k : ℕ) (s : List ℕ) → length s ≡ 0 → howMany (le? x) (take k s) ≡ 0
     empty zero s e = refl
@@ -94,12 +96,12 @@ module _ (h n : ℕ) (ok : InRange h n) where
   pub ends : (o : List ℕ) → length o ≡ n → Ends h n (answerTo h n o)
   unfolding answerTo rest
   ends [] e = absurd (omega (arith, ok .below))
-  ends (x ∷ s) e = rw (begins h n ok) (ends-at h n ok x s 0 0 (ok .from-1) (omega arith) (omega (arith, ok .from-1, ok .below)) (omega arith))
+  ends (x ∷ s) e = rw (one-call .begins h n .else-open ok) (ends-at h n ok x s 0 0 (ok .from-1) (omega arith) (omega (arith, ok .from-1, ok .below)) (omega arith))
 
   pub says : (j m : ℕ) → j ≤ h → suc m ≤ n → (suc m < n → j ≡ h) → (o : List ℕ) → length o ≡ n → atMost j (suc m) (answerTo h n o) ≡ among j (suc m) o
   unfolding answerTo rest
   says j m jh mn whole [] e = absurd (omega (arith, ok .below))
   says j m jh mn whole (x ∷ s) e =
-      rw (begins h n ok)
+      rw (one-call .begins h n .else-open ok)
       (stops h n ok x j m jh mn whole s 0 0 m (omega arith) (ok .from-1) (omega arith) (omega (arith, ok .from-1, ok .below)) (omega arith)
       ∙ rw (le-holds x x (omega arith)) (le-same _ _ _ _ (λ z. omega arith) (λ z. omega arith)))

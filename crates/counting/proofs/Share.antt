@@ -5,11 +5,11 @@ use Prim.Native.Nat.{ℕ, zero, suc, _+_, _-_, _*_, _≤_, _<_}
 use native.Mathlib.Omega.{arith}
 use lib.ListN.{length}
 use Rattle.counting.specs.Tests.{howMany}
-use Rattle.counting.specs.Stopping.{InRange}
+use Rattle.counting.specs.OneCall.{InRange}
 use Rattle.counting.specs.Orders.{Different, OrderOf, orders, factorial}
-use Rattle.counting.specs.Share.{Value, at-stop, at-size, Ends, ordersAtMost, Shares, ShareTheorem}
+use Rattle.counting.specs.Share.{Value, by-stop, by-size, Ends, ordersAtMost, Shares, ShareTheorem}
 use Rattle.counting.proofs.Picks.{orders-cong, has-length}
-use Rattle.counting.proofs.OrderLaws.{all-orders, order-length}
+use Rattle.counting.proofs.OrderLaws.{all-orders, order-length, down-differ, down-length}
 use Rattle.counting.proofs.Firsts.{among, in-all}
 use Rattle.counting.proofs.OrderRuns.{says, ends}
 
@@ -23,14 +23,17 @@ module _ (h n : ℕ) (ok : InRange h n) (xs : List ℕ) (d : Different xs) (e : 
       ∙ ap (λ (k : ℕ). j * factorial k) e
 
   share : (j l : ℕ) → Value h n j l → ordersAtMost h n xs j l * l ≡ j * factorial n
-  share j zero (at-stop p q r) = absurd (omega (arith, ok .from-1))
-  share j zero (at-size p q r) = absurd (omega (arith, ok .below))
-  share j (suc m) (at-stop p q r) = share-of j m (omega arith) q (omega arith) (λ s. p)
-  share j (suc m) (at-size p q r) = share-of j m q (omega (arith, ok .below)) (omega arith) (λ s. absurd (omega arith))
+  share j zero (by-stop p q r) = absurd (omega (arith, ok .from-1))
+  share j zero (by-size p q r) = absurd (omega (arith, ok .below))
+  share j (suc m) (by-stop p q r) = share-of j m (omega arith) q (omega arith) (λ s. p)
+  share j (suc m) (by-size p q r) = share-of j m q (omega (arith, ok .below)) (omega arith) (λ s. absurd (omega arith))
 
-pub shares : ShareTheorem
-shares h n ok xs d e = record {
-  all = all-orders xs d;
-  ends = λ o order. ends h n ok o (order-length xs o d order ∙ e);
-  share = share h n ok xs d e;
+pub share-theorem : ShareTheorem
+share-theorem = record {
+  shares = λ h n ok xs d e. record {
+    all = all-orders xs d;
+    ends = λ o order. ends h n ok o (order-length xs o d order ∙ e);
+    share = share h n ok xs d e;
+  };
+  some = λ n. (down-differ n, down-length n);
 }

@@ -1,7 +1,7 @@
 -- All orders of a list of results (rules 13.5).
 use mathlib.Core.Path.{_≡_}
 use mathlib.Core.List.{List, [], _∷_, _++_, map, flatMap}
-use Prim.Native.Nat.{ℕ, zero, suc, _*_, _≤_, _<_}
+use Prim.Native.Nat.{ℕ, zero, suc, _*_, _≤_}
 use lib.ListN.{length}
 use Rattle.counting.specs.Tests.{eq?, same?, howMany}
 
@@ -10,6 +10,11 @@ use Rattle.counting.specs.Tests.{eq?, same?, howMany}
 -- no result stands twice in the list
 pub record Different (xs : List ℕ) : Type 0 where
   pub once : (x : ℕ) → howMany (eq? x) xs ≤ 1
+
+-- n results that are: n to 1
+abbrev pub downFrom : ℕ → List ℕ
+downFrom zero = []
+downFrom (suc n) = suc n ∷ downFrom n
 
 -- an order of xs: a list in which every result stands as often as in xs
 pub record OrderOf (o xs : List ℕ) : Type 0 where

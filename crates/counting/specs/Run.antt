@@ -5,7 +5,7 @@ use mathlib.Core.List.{List, [], _∷_}
 use Prim.Native.Nat.{ℕ, _+_, _-_}
 use Rattle.counting.specs.Tests.{le?, lt?, eq?}
 use Rattle.counting.specs.declared.Run.{Run}
-use Rattle.counting.specs.declared.Counted.{Counted}
+use Rattle.counting.specs.declared.Drawn.{Drawn}
 use Rattle.counting.specs.declared.Answer.{Answer}
 use Rattle.counting.specs.declared.Answer.the-variants.{Open, Ended, Refused}
 
@@ -19,9 +19,9 @@ sizeLimit = 50000
 unfoldable pub sizesFit : ℕ → ℕ → Bool
 sizesFit h n = le? 1 h && lt? h n && le? n sizeLimit
 
--- refused by 10: g = h, or l = n - 1
-unfoldable pub hasEnded : Run → Bool
-hasEnded r = eq? (r .ones) (r .stop) || eq? (r .taken) (r .size - 1)
+-- refused by 10: g = h, or l = n - 1; n is at least 2, since 13 is judged before
+unfoldable pub isOver : Run → Bool
+isOver r = eq? (r .ones) (r .stop) || eq? (r .taken) (r .size - 1)
 
 -- unless refused by 11: l < n, g ≤ h and g ≤ l
 unfoldable pub isSound : Run → Bool
@@ -37,50 +37,52 @@ answerOf r =
 
 -- ---- a beginning: 13
 
-abbrev pub startRun : ℕ → ℕ → Run
-startRun h n = record { stop = h; size = n; taken = 0; ones = 0 }
+abbrev pub runOf : ℕ → ℕ → ℕ → ℕ → Run
+runOf h n l g = record { stop = h; size = n; taken = l; ones = g }
 
--- no run: every number zero
-abbrev pub noRun : Run
-noRun = record { stop = 0; size = 0; taken = 0; ones = 0 }
-
-abbrev pub refused : ℕ → Run → Counted
+abbrev pub refused : ℕ → Run → Drawn
 refused number r = record { answer = Refused number; run = r }
 
-unfoldable pub begun : ℕ → ℕ → Counted
-begun h n = cond (sizesFit h n) (record { answer = Open; run = startRun h n }) (refused 13 noRun)
+-- a refused beginning hands back zeros
+unfoldable pub begun : ℕ → ℕ → Drawn
+begun h n = cond (sizesFit h n) (record { answer = Open; run = runOf h n 0 0 }) (refused 13 (runOf 0 0 0 0))
 
 -- ---- a draw: 13, 9, 10, 11; a refusal hands back the run that it was given
 
 -- l rises by 1, and g by the draw
 abbrev pub nextRun : Run → ℕ → Run
-nextRun r d = record { stop = r .stop; size = r .size; taken = r .taken + 1; ones = r .ones + d }
+nextRun r d = runOf (r .stop) (r .size) (r .taken + 1) (r .ones + d)
 
-unfoldable pub drawn : Run → ℕ → Counted
+unfoldable pub drawn : Run → ℕ → Drawn
 drawn r d =
     cond (not (sizesFit (r .stop) (r .size))) (refused 13 r)
     (cond (not (le? d 1)) (refused 9 r)
-    (cond (hasEnded r) (refused 10 r)
+    (cond (isOver r) (refused 10 r)
     (cond (not (isSound r)) (refused 11 r)
     (record { answer = answerOf (nextRun r d); run = nextRun r d }))))
 
 -- ---- what each case of an answer says in the rules
 
-abbrev pub isEnded : Answer → Bool
-isEnded Open = false
-isEnded (Ended a b) = true
-isEnded (Refused k) = false
+abbrev pub isEnding : Answer → Bool
+isEnding Open = false
+isEnding (Ended a b) = true
+isEnding (Refused k) = false
 
--- the number of the refusal, 0 where there is none; the two numbers of the p-value, 0 and 0 unless ended
-abbrev pub refusalOf : Answer → ℕ
-refusalOf Open = 0
-refusalOf (Ended a b) = 0
-refusalOf (Refused k) = k
+-- as three numbers: 0 open; 1 ended, with the two numbers of the p-value; 2 refused, with the number of the refusal
+abbrev pub kindOf : Answer → ℕ
+kindOf Open = 0
+kindOf (Ended a b) = 1
+kindOf (Refused k) = 2
 
-abbrev pub valueOf : Answer → List ℕ
-valueOf Open = 0 ∷ 0 ∷ []
-valueOf (Ended a b) = a ∷ b ∷ []
-valueOf (Refused k) = 0 ∷ 0 ∷ []
+abbrev pub firstOf : Answer → ℕ
+firstOf Open = 0
+firstOf (Ended a b) = a
+firstOf (Refused k) = k
+
+abbrev pub secondOf : Answer → ℕ
+secondOf Open = 0
+secondOf (Ended a b) = b
+secondOf (Refused k) = 0
 
 abbrev pub valuesOf : Answer → List ℕ
-valuesOf a = refusalOf a ∷ valueOf a
+valuesOf a = kindOf a ∷ firstOf a ∷ secondOf a ∷ []

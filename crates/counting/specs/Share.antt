@@ -6,8 +6,9 @@ use Prim.Native.Nat.{ℕ, _*_, _≤_, _<_}
 use lib.ListN.{length}
 use Rattle.counting.specs.Tests.{le?, one, howMany}
 use Rattle.counting.specs.Run.{begun}
-use Rattle.counting.specs.Stopping.{ending, InRange}
-use Rattle.counting.specs.Orders.{Different, OrderOf, orders, factorial, AllOrders}
+use Rattle.counting.specs.Stopping.{ending}
+use Rattle.counting.specs.OneCall.{InRange}
+use Rattle.counting.specs.Orders.{Different, downFrom, OrderOf, orders, factorial, AllOrders}
 use Rattle.counting.specs.declared.Answer.{Answer}
 use Rattle.counting.specs.declared.Answer.the-variants.{Open, Ended, Refused}
 
@@ -32,14 +33,14 @@ atMost j l (Refused k) = false
 
 -- j / l is a value that a run can end with: h / l with l from h to n - 1, or j / n with j from 1 to h
 pub data Value (h n j l : ℕ) : Type 0 where
-  at-stop : j ≡ h → h ≤ l → l < n → Value h n j l
-  at-size : 1 ≤ j → j ≤ h → l ≡ n → Value h n j l
+  by-stop : j ≡ h → h ≤ l → l < n → Value h n j l
+  by-size : 1 ≤ j → j ≤ h → l ≡ n → Value h n j l
 
 -- the answer a ends a run, with such a value
 pub record Ends (h n : ℕ) (a : Answer) : Type 0 where
   pub numerator : ℕ
   pub denominator : ℕ
-  pub answered : a ≡ Ended numerator denominator
+  pub is : a ≡ Ended numerator denominator
   pub value : Value h n numerator denominator
 
 -- so many orders of xs have an answer at most j / l
@@ -52,6 +53,7 @@ pub record Shares (h n : ℕ) (xs : List ℕ) : Type 0 where
   pub ends : (o : List ℕ) → OrderOf o xs → Ends h n (answerTo h n o)
   pub share : (j l : ℕ) → Value h n j l → ordersAtMost h n xs j l * l ≡ j * factorial n
 
--- of every h and n in range, and any n different results
-abbrev pub ShareTheorem : Type 0
-ShareTheorem = (h n : ℕ) → InRange h n → (xs : List ℕ) → Different xs → length xs ≡ n → Shares h n xs
+-- of every h and n in range, and any n different results; and there are such
+pub record ShareTheorem : Type 0 where
+  pub shares : (h n : ℕ) → InRange h n → (xs : List ℕ) → Different xs → length xs ≡ n → Shares h n xs
+  pub some : (n : ℕ) → Different (downFrom n) × (length (downFrom n) ≡ n)

@@ -2,10 +2,11 @@
 use mathlib.Core.Path.{_≡_}
 use mathlib.Core.List.{List, [], _∷_}
 use Prim.Native.Nat.{ℕ}
-use Rattle.counting.specs.Run.{begun, drawn, valuesOf}
+use lib.ListN.{length}
+use Rattle.counting.specs.Run.{runOf, begun, drawn, valuesOf}
 use Rattle.counting.specs.Stopping.{ending}
+use Rattle.counting.specs.Orders.{orders}
 use Rattle.counting.specs.Share.{draws, answerTo, ordersAtMost}
-use Rattle.counting.specs.declared.Run.{Run}
 
 -- the run of h and n over these draws
 abbrev comesTo : ℕ → ℕ → List ℕ → List ℕ
@@ -16,7 +17,7 @@ abbrev beginning : ℕ → ℕ → List ℕ
 beginning h n = valuesOf (begun h n .answer)
 
 abbrev drawing : ℕ → ℕ → ℕ → ℕ → ℕ → List ℕ
-drawing h n l g d = valuesOf (drawn (record { stop = h; size = n; taken = l; ones = g }) d .answer)
+drawing h n l g d = valuesOf (drawn (runOf h n l g) d .answer)
 
 abbrev results : List ℕ
 results = 2 ∷ 3 ∷ 1 ∷ 4 ∷ []
@@ -35,6 +36,7 @@ computed =
     ∷ beginning 0 2
     ∷ beginning 1 2
     ∷ beginning 2 2
+    ∷ beginning 7 3
     ∷ beginning 49999 50000
     ∷ beginning 1 50001
     ∷ drawing 0 2 0 0 2
@@ -43,66 +45,84 @@ computed =
     -- 9, before 10 and 11
     ∷ drawing 2 5 0 0 2
     ∷ drawing 2 5 3 2 2
-    ∷ drawing 2 5 5 1 2
+    ∷ drawing 2 5 5 1 255
     -- 10: g = h or l = n - 1, before 11
     ∷ drawing 2 5 3 2 1
     ∷ drawing 2 5 4 1 0
     ∷ drawing 2 5 5 2 1
     ∷ drawing 2 5 4 3 1
-    -- 11: l = n, g = h + 1, g = l + 1; and each just inside
+    -- 11: l = n, g = h + 1, g = l + 1; each far outside; and just inside
     ∷ drawing 2 5 5 1 1
     ∷ drawing 2 5 3 3 1
     ∷ drawing 3 5 1 2 1
+    ∷ drawing 2 5 4294967295 1 1
+    ∷ drawing 2 50000 40000 30000 1
+    ∷ drawing 40000 50000 1 30000 1
     ∷ drawing 2 5 3 1 1
     ∷ drawing 2 5 3 1 0
     ∷ drawing 3 5 2 2 0
     ∷ drawing 2 5 2 1 1
-    -- one order: its draws, and its answer with h = 2
+    -- one order: its draws, and its answer with h = 2; a tie draws 1
     ∷ draws results
+    ∷ draws (2 ∷ 2 ∷ 3 ∷ 1 ∷ [])
     ∷ valuesOf (answerTo 2 4 results)
-    -- of the 24 orders of four results with h = 2, those with an answer at most 2/2, 2/3, 2/4, 1/4
+    -- the orders of four results; with h = 2, those with an answer at most 2/2, 2/3, 2/4, 1/4
+    ∷ (length (orders results) ∷ [])
     ∷ (ordersAtMost 2 4 results 2 2 ∷ ordersAtMost 2 4 results 2 3 ∷ ordersAtMost 2 4 results 2 4 ∷ ordersAtMost 2 4 results 1 4 ∷ [])
     ∷ []
 
+-- 0 open, 1 ended with a / b, 2 refused by a number
+abbrev answeredOpen : List ℕ
+answeredOpen = 0 ∷ 0 ∷ 0 ∷ []
+
+abbrev refusedBy : ℕ → List ℕ
+refusedBy number = 2 ∷ number ∷ 0 ∷ []
+
 unfoldable pub printed : List (List ℕ)
 printed =
-    (0 ∷ 1 ∷ 1 ∷ [])
-    ∷ (0 ∷ 1 ∷ 2 ∷ [])
+    (1 ∷ 1 ∷ 1 ∷ [])
+    ∷ (1 ∷ 1 ∷ 2 ∷ [])
     -- h = 2, n = 4
-    ∷ (0 ∷ 2 ∷ 2 ∷ [])
-    ∷ (0 ∷ 2 ∷ 3 ∷ [])
-    ∷ (0 ∷ 2 ∷ 4 ∷ [])
-    ∷ (0 ∷ 1 ∷ 4 ∷ [])
+    ∷ (1 ∷ 2 ∷ 2 ∷ [])
+    ∷ (1 ∷ 2 ∷ 3 ∷ [])
+    ∷ (1 ∷ 2 ∷ 4 ∷ [])
+    ∷ (1 ∷ 1 ∷ 4 ∷ [])
     -- 13
-    ∷ (13 ∷ 0 ∷ 0 ∷ [])
-    ∷ (0 ∷ 0 ∷ 0 ∷ [])
-    ∷ (13 ∷ 0 ∷ 0 ∷ [])
-    ∷ (0 ∷ 0 ∷ 0 ∷ [])
-    ∷ (13 ∷ 0 ∷ 0 ∷ [])
-    ∷ (13 ∷ 0 ∷ 0 ∷ [])
-    ∷ (13 ∷ 0 ∷ 0 ∷ [])
-    ∷ (13 ∷ 0 ∷ 0 ∷ [])
+    ∷ refusedBy 13
+    ∷ answeredOpen
+    ∷ refusedBy 13
+    ∷ refusedBy 13
+    ∷ answeredOpen
+    ∷ refusedBy 13
+    ∷ refusedBy 13
+    ∷ refusedBy 13
+    ∷ refusedBy 13
     -- 9
-    ∷ (9 ∷ 0 ∷ 0 ∷ [])
-    ∷ (9 ∷ 0 ∷ 0 ∷ [])
-    ∷ (9 ∷ 0 ∷ 0 ∷ [])
+    ∷ refusedBy 9
+    ∷ refusedBy 9
+    ∷ refusedBy 9
     -- 10
-    ∷ (10 ∷ 0 ∷ 0 ∷ [])
-    ∷ (10 ∷ 0 ∷ 0 ∷ [])
-    ∷ (10 ∷ 0 ∷ 0 ∷ [])
-    ∷ (10 ∷ 0 ∷ 0 ∷ [])
+    ∷ refusedBy 10
+    ∷ refusedBy 10
+    ∷ refusedBy 10
+    ∷ refusedBy 10
     -- 11
-    ∷ (11 ∷ 0 ∷ 0 ∷ [])
-    ∷ (11 ∷ 0 ∷ 0 ∷ [])
-    ∷ (11 ∷ 0 ∷ 0 ∷ [])
-    ∷ (0 ∷ 2 ∷ 4 ∷ [])
-    ∷ (0 ∷ 2 ∷ 5 ∷ [])
-    ∷ (0 ∷ 0 ∷ 0 ∷ [])
-    ∷ (0 ∷ 2 ∷ 3 ∷ [])
+    ∷ refusedBy 11
+    ∷ refusedBy 11
+    ∷ refusedBy 11
+    ∷ refusedBy 11
+    ∷ refusedBy 11
+    ∷ refusedBy 11
+    ∷ (1 ∷ 2 ∷ 4 ∷ [])
+    ∷ (1 ∷ 2 ∷ 5 ∷ [])
+    ∷ answeredOpen
+    ∷ (1 ∷ 2 ∷ 3 ∷ [])
     -- the order
     ∷ (1 ∷ 0 ∷ 1 ∷ [])
-    ∷ (0 ∷ 2 ∷ 3 ∷ [])
+    ∷ (1 ∷ 1 ∷ 0 ∷ [])
+    ∷ (1 ∷ 2 ∷ 3 ∷ [])
     -- the shares
+    ∷ (24 ∷ [])
     ∷ (24 ∷ 16 ∷ 12 ∷ 6 ∷ [])
     ∷ []
 

@@ -1,28 +1,28 @@
 // A beginning and a draw (rules 13.1, 13.2).
 
 use crate::Answer;
-use crate::Counted;
+use crate::Drawn;
 use crate::Run;
 use crate::judging::answer_of;
-use crate::judging::has_ended;
+use crate::judging::is_over;
 use crate::judging::is_sound;
 use crate::judging::sizes_fit;
 ghost use mathlib.Core.Path.{_≡_};
 ghost use Rattle.counting.specs.Run.{refused, begun, drawn};
 
 // A refusal by its number, with a run.
-fn refused(number: u32, r: Run) -> Counted
+fn refused(number: u32, r: Run) -> Drawn
     ensures { λ c. ⌜ c ≡ refused number r ⌝ }
 {
     let answer = Answer::Refused(number);
-    Counted {
+    Drawn {
         answer: answer,
         run: r,
     }
 }
 
 // Beginning a run of stop count h and size n, judged by 13. Any numbers may be handed in.
-pub fn begin(h: u32, n: u32) -> Counted
+pub fn begin(h: u32, n: u32) -> Drawn
     ensures { λ c. ⌜ c ≡ begun h n ⌝ }
 {
     if !sizes_fit(h, n) {
@@ -41,14 +41,14 @@ pub fn begin(h: u32, n: u32) -> Counted
         ones: 0,
     };
     let answer = Answer::Open;
-    Counted {
+    Drawn {
         answer: answer,
         run: run,
     }
 }
 
 // A draw, judged by 13, 9, 10 and 11 in this order. Any run and draw may be handed in; a refusal hands back the run it was given.
-pub fn draw(r: Run, d: u8) -> Counted
+pub fn draw(r: Run, d: u8) -> Drawn
     ensures { λ c. ⌜ c ≡ drawn r d ⌝ }
 {
     if !sizes_fit(r.stop, r.size) {
@@ -57,7 +57,7 @@ pub fn draw(r: Run, d: u8) -> Counted
     if d > 1 {
         return refused(9, r);
     }
-    if has_ended(r) {
+    if is_over(r) {
         return refused(10, r);
     }
     if !is_sound(r) {
@@ -70,7 +70,7 @@ pub fn draw(r: Run, d: u8) -> Counted
         ones: r.ones + d as u32,
     };
     let answer = answer_of(run);
-    Counted {
+    Drawn {
         answer: answer,
         run: run,
     }

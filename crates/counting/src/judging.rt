@@ -5,7 +5,7 @@ use crate::Run;
 use crate::SIZE_LIMIT;
 ghost use mathlib.Core.Path.{_≡_};
 ghost use Prim.Native.Nat.{_≤_, _<_};
-ghost use Rattle.counting.specs.Run.{sizeLimit, sizesFit, hasEnded, isSound, answerOf};
+ghost use Rattle.counting.specs.Run.{sizeLimit, sizesFit, isOver, isSound, answerOf};
 
 // 13, of any numbers.
 pub(crate) fn sizes_fit(stop: u32, size: u32) -> bool
@@ -21,9 +21,9 @@ pub(crate) fn sizes_fit(stop: u32, size: u32) -> bool
 }
 
 // 10. Judged after 13.
-pub(crate) fn has_ended(r: Run) -> bool
+pub(crate) fn is_over(r: Run) -> bool
     requires { ⌜ 1 ≤ r .size ⌝ }
-    ensures { λ b. ⌜ b ≡ hasEnded r ⌝ }
+    ensures { λ b. ⌜ b ≡ isOver r ⌝ }
 {
     if r.ones == r.stop {
         return true;

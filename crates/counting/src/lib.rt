@@ -21,7 +21,7 @@ pub enum Answer {
 }
 
 // An answer with the run that a call hands back.
-pub struct Counted {
+pub struct Drawn {
     pub answer: Answer,
     pub run: Run,
 }

@@ -7,11 +7,13 @@ use Rattle.bucket_test.specs.declared.Answer.{Answer}
 use Rattle.bucket_test.specs.declared.Answer.the-variants as answers
 use Rattle.bucket_test.specs.declared.Threshold.{Threshold}
 use Rattle.bucket_test.specs.declared.Drawn.{Drawn}
-use Rattle.counting.specs.declared.Counted.{Counted}
+use Rattle.counting.specs.Run.{kindOf, firstOf, secondOf}
+use Rattle.counting.specs.declared.Drawn.{Drawn as Counted}
 use Rattle.counting.specs.declared.Answer.{Answer as Count}
 use Rattle.counting.specs.declared.Answer.the-variants as counts
 use Rattle.host.specs.States.{markIn, markCase, markStep, answerIn, answerCase, answerNumber, recordIn, recordOut, drawnIn, drawnOut}
-use Rattle.host.specs.Runs.{countIn, countCase, countFirst, countSecond, countedIn, countedOut}
+use Rattle.host.specs.Runs as runs
+use Rattle.host.specs.Runs.{runOut}
 
 mark-kept : (m : Mark) → markIn (markCase m) (markStep m) ≡ m
 mark-kept Open = refl
@@ -34,11 +36,13 @@ pub kept : (d : Drawn) → drawnIn (drawnOut d) ≡ d
 unfolding drawnIn drawnOut
 kept d = rw (answer-kept (d .answer), records-kept (d .state .records)) refl
 
-count-kept : (a : Count) → countIn (countCase a) (countFirst a) (countSecond a) ≡ a
-count-kept counts.Open = refl
-count-kept (counts.Ended a b) = refl
-count-kept (counts.Refused r) = refl
+-- ---- a run of counting
 
-pub counted-kept : (c : Counted) → countedIn (countedOut c) ≡ c
-unfolding countedIn countedOut
-counted-kept c = rw (count-kept (c .answer)) refl
+run-answer-kept : (a : Count) → runs.answerIn (kindOf a) (firstOf a) (secondOf a) ≡ a
+run-answer-kept counts.Open = refl
+run-answer-kept (counts.Ended a b) = refl
+run-answer-kept (counts.Refused r) = refl
+
+pub run-kept : (o : Counted) → runs.drawnIn (runOut o) ≡ o
+unfolding runs.drawnIn runOut
+run-kept o = rw (run-answer-kept (o .answer)) refl

@@ -2,16 +2,16 @@
 
 use crate::HostRun;
 use counting::Answer;
-use counting::Counted;
+use counting::Drawn;
 use counting::Run;
 use counting::drawing::begin;
 use counting::drawing::draw;
 ghost use mathlib.Core.Path.{_≡_};
-ghost use Rattle.counting.specs.Run.{begun, drawn};
-ghost use Rattle.host.specs.Runs.{countCase, countFirst, countSecond, runIn, countedOut};
+ghost use Rattle.counting.specs.Run.{begun, drawn, kindOf, firstOf, secondOf};
+ghost use Rattle.host.specs.Runs.{runIn, runOut};
 
-fn count_case(a: Answer) -> u32
-    ensures { λ r. ⌜ r ≡ countCase a ⌝ }
+fn kind_of(a: Answer) -> u32
+    ensures { λ r. ⌜ r ≡ kindOf a ⌝ }
 {
     match a {
         Answer::Open => 0,
@@ -20,8 +20,8 @@ fn count_case(a: Answer) -> u32
     }
 }
 
-fn count_first(a: Answer) -> u32
-    ensures { λ r. ⌜ r ≡ countFirst a ⌝ }
+fn first_of(a: Answer) -> u32
+    ensures { λ r. ⌜ r ≡ firstOf a ⌝ }
 {
     match a {
         Answer::Open => 0,
@@ -30,8 +30,8 @@ fn count_first(a: Answer) -> u32
     }
 }
 
-fn count_second(a: Answer) -> u32
-    ensures { λ r. ⌜ r ≡ countSecond a ⌝ }
+fn second_of(a: Answer) -> u32
+    ensures { λ r. ⌜ r ≡ secondOf a ⌝ }
 {
     match a {
         Answer::Open => 0,
@@ -40,15 +40,15 @@ fn count_second(a: Answer) -> u32
     }
 }
 
-fn counted_out(c: Counted) -> HostRun
-    ensures { λ r. ⌜ r ≡ countedOut c ⌝ }
+fn run_out(o: Drawn) -> HostRun
+    ensures { λ r. ⌜ r ≡ runOut o ⌝ }
 {
-    let answer = c.answer;
-    let run = c.run;
+    let answer = o.answer;
+    let run = o.run;
     HostRun {
-        answer: count_case(answer),
-        first: count_first(answer),
-        second: count_second(answer),
+        answer: kind_of(answer),
+        first: first_of(answer),
+        second: second_of(answer),
         stop: run.stop,
         size: run.size,
         taken: run.taken,
@@ -58,14 +58,14 @@ fn counted_out(c: Counted) -> HostRun
 
 #[no_mangle]
 pub extern "C" fn host_count_begin(h: u32, n: u32) -> HostRun
-    ensures { λ r. ⌜ r ≡ countedOut (begun h n) ⌝ }
+    ensures { λ r. ⌜ r ≡ runOut (begun h n) ⌝ }
 {
-    counted_out(begin(h, n))
+    run_out(begin(h, n))
 }
 
 #[no_mangle]
 pub extern "C" fn host_count_draw(r: HostRun, d: u8) -> HostRun
-    ensures { λ o. ⌜ o ≡ countedOut (drawn (runIn r) d) ⌝ }
+    ensures { λ o. ⌜ o ≡ runOut (drawn (runIn r) d) ⌝ }
 {
     let run = Run {
         stop: r.stop,
@@ -73,5 +73,5 @@ pub extern "C" fn host_count_draw(r: HostRun, d: u8) -> HostRun
         taken: r.taken,
         ones: r.ones,
     };
-    counted_out(draw(run, d))
+    run_out(draw(run, d))
 }

@@ -5,9 +5,9 @@ use Prim.Native.Nat.{_+_, _≤_, _<_}
 use native.Mathlib.Omega.{arith}
 use borrow.Author.Tests.{not-true, not-false}
 use borrow.Author.Needs.{needs}
-use Rattle.counting.specs.Run.{sizeLimit, sizesFit, hasEnded, isSound}
-use Rattle.counting.specs.Stopping.{InRange}
-use Rattle.counting.proofs.DrawingLaws.{drawn-13, drawn-9, drawn-10, drawn-11, drawn-0, in-range, sound-says}
+use Rattle.counting.specs.Run.{sizeLimit, sizesFit, isOver, isSound}
+use Rattle.counting.specs.OneCall.{InRange}
+use Rattle.counting.proofs.JudgingLaws.{in-range, sound-says, drawn-13, drawn-9, drawn-10, drawn-11, drawn-0}
 use Rattle.counting.proofs.drawing.draw.Statement.{statement}
 use Rattle.counting.proofs.drawing.draw.Tie as tie
 
@@ -18,8 +18,8 @@ fits c = sym (c .before .sizes-fit .ensures) ∙ not-false _ (c .if1 .left)
 ranged : (c : tie.Else1) → let r = c .before .before .args .r in InRange (r .stop) (r .size)
 ranged c = in-range _ _ (fits c)
 
-open-yet : (c : tie.Else3) → hasEnded (c .before .before .before .before .before .args .r) ≡ false
-open-yet c = sym (c .before .has-ended .ensures) ∙ c .if3 .left
+open-yet : (c : tie.Else3) → isOver (c .before .before .before .before .before .args .r) ≡ false
+open-yet c = sym (c .before .is-over .ensures) ∙ c .if3 .left
 
 sound : (c : tie.Else4) → isSound (c .before .before .before .before .before .before .before .args .r) ≡ true
 sound c = sym (c .before .is-sound .ensures) ∙ not-false _ (c .if4 .left)
@@ -49,8 +49,8 @@ refused-requires-2 c κs = search needs
 returns-2 : tie.Need-returns-2
 returns-2 c = c .refused2 .ensures ∙ sym (drawn-9 _ _ (fits (c .before .before)) (c .before .if2 .taken))
 
-has-ended-requires : tie.Need-has-ended-requires
-has-ended-requires c κs = omega (arith, ranged (c .before) .below)
+is-over-requires : tie.Need-is-over-requires
+is-over-requires c κs = omega (arith, ranged (c .before) .below)
 
 refused-requires-3 : tie.Need-refused-requires-3
 refused-requires-3 c κs = search needs
@@ -58,7 +58,7 @@ refused-requires-3 c κs = search needs
 returns-3 : tie.Need-returns-3
 returns-3 c =
     let e = c .before .before .before in
-    c .refused3 .ensures ∙ sym (drawn-10 _ _ (fits (e .before)) (e .if2 .left) (sym (c .before .before .has-ended .ensures) ∙ c .before .if3 .taken))
+    c .refused3 .ensures ∙ sym (drawn-10 _ _ (fits (e .before)) (e .if2 .left) (sym (c .before .before .is-over .ensures) ∙ c .before .if3 .taken))
 
 is-sound-requires : tie.Need-is-sound-requires
 is-sound-requires c κs = search needs
@@ -98,7 +98,7 @@ draw-spec =
     returns
     refused-requires-2
     returns-2
-    has-ended-requires
+    is-over-requires
     refused-requires-3
     returns-3
     is-sound-requires
