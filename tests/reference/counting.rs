@@ -3,7 +3,7 @@
 
 use crate::host::{self, Run, RUN_ENDED, RUN_OPEN, RUN_REFUSED};
 use crate::limits::{self, mistakes, mistakes_of_begin, name, Fault};
-use crate::met::{Met, BEGIN, CARRIED, SPOILED};
+use crate::met::{Met, BEGIN, CARRIED, OTHER};
 use crate::orders;
 use crate::rng::Rng;
 use crate::tally::conclude;
@@ -53,7 +53,7 @@ fn carry(met: &mut Met, whole: &Whole) -> Option<(u32, u32)> {
 
 fn compare_draw(met: &mut Met, handed: &Run, d: u8) -> Run {
     let (got, expected) = (host::count_draw(*handed, d), limits::draw(handed, d, Fault::None));
-    met.note(SPOILED, &got, got == expected, || shown(handed, d, &got, &expected));
+    met.note(OTHER, &got, got == expected, || shown(handed, d, &got, &expected));
     met.note_draw(handed, d, &got);
     got
 }
@@ -90,7 +90,7 @@ const STEPS: [([u32; 4], u8, [u32; 3]); 6] = [
 
 const RESULTS: [u64; 4] = [2, 3, 1, 4];
 
-/// Draws, records and an order with their answers as the rules print them; what is another is listed.
+/// Draws, records and an order with their answers as printed; what is another is listed.
 fn printed(met: &mut Met) -> Vec<String> {
     let mut out = Vec::new();
     for (h, n, draws, answer) in examples() {
@@ -200,7 +200,7 @@ fn compare_record(met: &mut Met, rng: &mut Rng, place: u64) {
         return;
     }
     for fault in mistakes() {
-        met.note_mistake(SPOILED, name(fault), limits::draw(&record, d, fault) != got);
+        met.note_mistake(OTHER, name(fault), limits::draw(&record, d, fault) != got);
     }
     for fault in mistakes_of_begin() {
         met.note_mistake(BEGIN, name(fault), limits::begin(record.stop, record.size, fault) != begun);

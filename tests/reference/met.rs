@@ -11,13 +11,13 @@ const NOTICED: u64 = 100;
 
 pub const BEGIN: &str = "begin";
 pub const CARRIED: &str = "carried draw";
-pub const SPOILED: &str = "spoiled draw";
+pub const OTHER: &str = "other draw";
 
 /// The outcomes that must come up, by kind of call.
 const EXPECTED: [(&str, &[&str]); 3] = [
     (BEGIN, &["open", "refused 13"]),
     (CARRIED, &["open", "h/l", "(g + 1)/n", "refused 9", "refused 10"]),
-    (SPOILED, &["open", "h/l", "(g + 1)/n", "refused 9", "refused 10", "refused 11", "refused 13"]),
+    (OTHER, &["open", "h/l", "(g + 1)/n", "refused 9", "refused 10", "refused 11", "refused 13"]),
 ];
 
 /// Ends of carried runs that must come up.
@@ -125,7 +125,7 @@ impl Met {
             let begin = if place < RANGES { format!("{begun:>12}{refused:>12}") } else { String::new() };
             println!("{:<20}{taken:>12}{ended:>12}{past:>12}{begin}", format!("{number}: {name}"));
         }
-        for group in [SPOILED, BEGIN] {
+        for group in [OTHER, BEGIN] {
             println!("mistakes noticed, {group}: {}", named(&self.noticed_in(group)));
         }
     }
@@ -146,7 +146,7 @@ impl Met {
                 out.push(format!("a limit was not met: {}", LIMITS[place].1));
             }
         }
-        for (group, list) in [(SPOILED, mistakes()), (BEGIN, mistakes_of_begin())] {
+        for (group, list) in [(OTHER, mistakes()), (BEGIN, mistakes_of_begin())] {
             let noticed = self.noticed_in(group);
             let seldom = list.into_iter().map(name).filter(|fault| noticed.get(fault).map_or(true, |n| *n < NOTICED));
             out.extend(seldom.map(|fault| format!("{group}: seldom noticed: {fault}")));

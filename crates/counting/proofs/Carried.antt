@@ -1,11 +1,11 @@
 -- A draw to a run that was carried from a beginning to l draws with g ones.
-use mathlib.Core.Path.{_≡_, refl}
-use mathlib.Core.Logic.{_⊎_, inl, inr}
+use mathlib.Core.Path.{_≡_}
+use mathlib.Core.Logic.{inl, inr}
 use mathlib.Core.Bool.{Bool, true, false}
 use Prim.Native.Nat.{ℕ, suc, _+_, _-_, _≤_, _<_}
 use native.Mathlib.Omega.{arith}
 use Rattle.counting.specs.Tests.{le?, eq?}
-use Rattle.counting.specs.Run.{isOver, answerOf, runOf, refused, begun, drawn}
+use Rattle.counting.specs.Run.{isOver, answerOf, runOf, refused, drawn}
 use Rattle.counting.specs.OneCall.{InRange, Over, Spoiled, Answers}
 use Rattle.counting.specs.declared.Drawn.{Drawn}
 use Rattle.counting.specs.declared.Answer.{Answer}

@@ -1,15 +1,15 @@
 -- Among all orders each result is first equally often; and a test of the first l results passes in the same share of the orders of more
 -- results. So the first result is among the j largest of the first l in exactly the share j / l.
 use mathlib.Core.Path.{_≡_, refl, sym, ap, _∙_}
-use mathlib.Core.Bool.{Bool, true, false}
-use mathlib.Core.List.{List, [], _∷_, _++_}
-use Prim.Native.Nat.{ℕ, zero, suc, _+_, _*_, _≤_, _<_, min}
+use mathlib.Core.Bool.{Bool}
+use mathlib.Core.List.{List, [], _∷_}
+use Prim.Native.Nat.{ℕ, zero, suc, _+_, _*_, _≤_}
 use native.Mathlib.Omega.{arith}
 use lib.ListN.{length, getD, take, List·getD-append}
 use lib.Seq.{take-append-le, take-all}
 use Rattle.counting.specs.Tests.{le?, one, howMany}
-use Rattle.counting.specs.Orders.{Different, Pick, picks, ordersOf, factorial}
-use Rattle.counting.proofs.Picks.{Parts, Has, sumOver, sum-mul, sum-add, many-orders, orders-cong, picks-cong, picks-const, picks-last, others-length, others-differ, has-length}
+use Rattle.counting.specs.Orders.{Different, picks, ordersOf, factorial}
+use Rattle.counting.proofs.Picks.{sumOver, sum-mul, sum-add, many-orders, orders-cong, picks-cong, picks-const, picks-last, others-length, others-differ, has-length}
 use Rattle.counting.proofs.Ranks.{ranks}
 
 abbrev pub first : List ℕ → ℕ

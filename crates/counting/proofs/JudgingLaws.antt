@@ -1,16 +1,14 @@
 -- What each test of a run says in words, and the ways out of a draw, of any run.
-use mathlib.Core.Path.{_≡_, refl, sym, ap, _∙_}
-use mathlib.Core.Logic.{_⊎_, inl, inr}
-use mathlib.Core.Bool.{Bool, true, false, cond, _&&_, _||_, true≢false}
-use Prim.Native.Nat.{ℕ, zero, suc, _+_, _-_, _≤_, _<_}
+use mathlib.Core.Path.{_≡_, refl}
+use mathlib.Core.Logic.{inl, inr}
+use mathlib.Core.Bool.{Bool, true, false, _&&_, _||_}
+use Prim.Native.Nat.{ℕ, zero, suc, _-_, _≤_, _<_}
 use native.Mathlib.Omega.{arith}
 use Rattle.counting.specs.Tests.{le?, lt?, eq?}
 use Rattle.counting.specs.Run.{sizeLimit, sizesFit, isOver, isSound, answerOf, runOf, refused, nextRun, drawn}
 use Rattle.counting.specs.OneCall.{InRange, Bit, Over, Spoiled, Answers}
 use Rattle.counting.specs.declared.Run.{Run}
-use Rattle.counting.specs.declared.Answer.{Answer}
-use Rattle.counting.specs.declared.Answer.the-variants.{Open, Ended}
-use Rattle.counting.proofs.TestLaws.{Le?, le, gt, le-view, Eq?, same, other, eq-view, le-holds, le-fails, lt-holds, lt-fails, le-says, eq-holds, eq-fails, three-say}
+use Rattle.counting.proofs.TestLaws.{Le?, gt, le-view, le-holds, le-fails, lt-holds, le-says, eq-holds, eq-fails, three-say}
 
 -- a test that says A fails where A does not hold
 fails : {A : Type 0} (b : Bool) → (b ≡ true → A) → ¬ A → b ≡ false

@@ -1,9 +1,8 @@
 -- A beginning and a draw, in words.
-use mathlib.Core.Path.{_≡_, ap}
-use mathlib.Core.Bool.{true, false}
+use mathlib.Core.Path.{ap}
 use Prim.Native.Nat.{ℕ, _+_}
-use Rattle.counting.specs.Run.{runOf, begun, drawn}
-use Rattle.counting.specs.OneCall.{InRange, Bit, Over, Spoiled, Begins, Answers, Draws, OneCallTheorem}
+use Rattle.counting.specs.Run.{begun}
+use Rattle.counting.specs.OneCall.{Begins, Draws, OneCallTheorem}
 use Rattle.counting.specs.declared.Run.{Run}
 use Rattle.counting.specs.declared.Drawn.{Drawn}
 use Rattle.counting.proofs.JudgingLaws.{fits, unfit, small, large, over-holds, over-fails, sound-fails, sound-holds, answer-says, drawn-13, drawn-9, drawn-10, drawn-11, drawn-0}

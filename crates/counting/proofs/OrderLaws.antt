@@ -1,14 +1,14 @@
 -- The listed orders are all orders, each once.
-use mathlib.Core.Path.{_≡_, refl, sym, ap, ap₂, _∙_}
+use mathlib.Core.Path.{_≡_, refl, ap, ap₂, _∙_}
 use mathlib.Core.Bool.{Bool, true, false, _&&_, false≢true}
 use mathlib.Core.List.{List, [], _∷_, _++_}
 use Prim.Native.Nat.{ℕ, zero, suc, _+_, _≤_, _<_}
 use native.Mathlib.Omega.{arith}
 use lib.ListN.{length}
 use Rattle.counting.specs.Tests.{eq?, same?, one, howMany}
-use Rattle.counting.specs.Orders.{Different, downFrom, OrderOf, Pick, picks, ordersOf, orders, AllOrders}
+use Rattle.counting.specs.Orders.{Different, downFrom, OrderOf, Pick, ordersOf, orders, AllOrders}
 use Rattle.counting.proofs.TestLaws.{Eq?, same, other, eq-view, eq-holds, eq-fails}
-use Rattle.counting.proofs.Picks.{Parts, Has, sumOver, many-orders, many-append, many-cong, many-none, orders-cong, orders-number, picks-cong, picks-last, others-length, others-differ, has-length}
+use Rattle.counting.proofs.Picks.{Parts, Has, many-orders, many-append, many-cong, many-none, orders-cong, orders-number, picks-cong, picks-last, others-length, others-differ, has-length}
 
 same-eq : (a b : List ℕ) → same? a b ≡ true → a ≡ b
 same-eq [] [] e = refl

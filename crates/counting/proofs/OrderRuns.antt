@@ -1,22 +1,21 @@
 -- The run of an order ends, and what its answer says: it is at most j / l exactly when at most j of the first l results are at least the real one.
 use mathlib.Core.Path.{_≡_, refl, sym, ap, _∙_}
-use mathlib.Core.Bool.{Bool, true, false}
+use mathlib.Core.Bool.{true}
 use mathlib.Core.List.{List, [], _∷_, map}
 use Prim.Native.Nat.{ℕ, zero, suc, _+_, _-_, _*_, _≤_, _<_}
 use native.Mathlib.Nat.{mul-le-mul, mul-le-mul-right, mul-lt-mul-of-pos-left, le-of-mul-le-mul-right}
 use native.Mathlib.Omega.{arith}
-use lib.ListN.{length, take, getD}
+use lib.ListN.{length, take}
 use Rattle.counting.specs.Tests.{le?, one, howMany}
-use Rattle.counting.specs.Run.{answerOf, runOf, begun}
+use Rattle.counting.specs.Run.{answerOf, runOf}
 use Rattle.counting.specs.Stopping.{orLater, ending}
 use Rattle.counting.specs.OneCall.{InRange}
-use Rattle.counting.specs.Share.{draws, answerTo, atMost, Value, by-stop, by-size, Ends}
+use Rattle.counting.specs.Share.{answerTo, atMost, by-stop, by-size, Ends}
 use Rattle.counting.specs.declared.Answer.{Answer}
-use Rattle.counting.specs.declared.Answer.the-variants.{Open, Ended, Refused}
 use Rattle.counting.proofs.TestLaws.{le-holds, le-fails, le-same, one-small}
 use Rattle.counting.proofs.OneCall.{one-call}
 use Rattle.counting.proofs.Carried.{AnswerIs, stopped, spent, going, answer-is, taken}
-use Rattle.counting.proofs.Firsts.{first, among}
+use Rattle.counting.proofs.Firsts.{among}
 
 module _ (h n : ℕ) (ok : InRange h n) (x : ℕ) where
   -- the draws of the shuffles s beside the real result x, to a run that has taken l draws with g ones

@@ -1,13 +1,12 @@
 -- The share of the orders with an answer at most a value.
-use mathlib.Core.Path.{_≡_, refl, sym, ap, _∙_}
+use mathlib.Core.Path.{_≡_, refl, ap, _∙_}
 use mathlib.Core.List.{List}
-use Prim.Native.Nat.{ℕ, zero, suc, _+_, _-_, _*_, _≤_, _<_}
+use Prim.Native.Nat.{ℕ, zero, suc, _-_, _*_, _≤_, _<_}
 use native.Mathlib.Omega.{arith}
 use lib.ListN.{length}
-use Rattle.counting.specs.Tests.{howMany}
 use Rattle.counting.specs.OneCall.{InRange}
-use Rattle.counting.specs.Orders.{Different, OrderOf, orders, factorial}
-use Rattle.counting.specs.Share.{Value, by-stop, by-size, Ends, ordersAtMost, Shares, ShareTheorem}
+use Rattle.counting.specs.Orders.{Different, orders, factorial}
+use Rattle.counting.specs.Share.{Value, by-stop, by-size, ordersAtMost, ShareTheorem}
 use Rattle.counting.proofs.Picks.{orders-cong, has-length}
 use Rattle.counting.proofs.OrderLaws.{all-orders, order-length, down-differ, down-length}
 use Rattle.counting.proofs.Firsts.{among, in-all}

@@ -2,22 +2,22 @@
 use mathlib.Core.Path.{_≡_, refl, sym, ap, ap₂, _∙_}
 use mathlib.Core.Logic.{inl, inr}
 use mathlib.Core.Bool.{Bool, true, false, cond, _||_, true≢false, false≢true}
-use mathlib.Core.List.{List, [], _∷_, _++_}
+use mathlib.Core.List.{List, [], _∷_}
 use Prim.Native.Nat.{ℕ, zero, suc, _+_, _-_, _≤_, _<_}
 use native.Mathlib.Omega.{arith}
 use lib.ListN.{length}
-use Rattle.counting.specs.Tests.{eq?, one, howMany}
+use Rattle.counting.specs.Tests.{eq?, one}
 use Rattle.counting.specs.Run.{isOver, answerOf, runOf, begun, drawn, isEnding, kindOf, firstOf}
 use Rattle.counting.specs.OneCall.{InRange, Bit, Over, Answers}
-use Rattle.counting.specs.Stopping.{after, takenBy, drawsTaken, orLater, ending, ones, AnswersDraw, StopRule, StopTheorem}
+use Rattle.counting.specs.Stopping.{after, takenBy, drawsTaken, orLater, ending, ones, AnswersDraw, StopTheorem}
 use Rattle.counting.specs.declared.Run.{Run}
 use Rattle.counting.specs.declared.Drawn.{Drawn}
 use Rattle.counting.specs.declared.Answer.{Answer}
-use Rattle.counting.specs.declared.Answer.the-variants.{Open, Ended, Refused}
+use Rattle.counting.specs.declared.Answer.the-variants.{Open, Ended}
 use Rattle.counting.proofs.TestLaws.{eq-holds, eq-fails}
 use Rattle.counting.proofs.JudgingLaws.{bit, small, over-holds, answer-says}
 use Rattle.counting.proofs.OneCall.{one-call}
-use Rattle.counting.proofs.Carried.{goes-on, AnswerIs, stopped, spent, going, answer-is, Turn, refuses-9, refuses-10, takes, turn}
+use Rattle.counting.proofs.Carried.{goes-on, AnswerIs, stopped, spent, going, Turn, refuses-9, refuses-10, takes, turn}
 
 -- a draw of 0 or 1 counts itself among the ones
 count-one : (d : ℕ) → d ≤ 1 → one (eq? 1 d) ≡ d

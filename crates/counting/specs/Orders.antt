@@ -11,7 +11,7 @@ use Rattle.counting.specs.Tests.{eq?, same?, howMany}
 pub record Different (xs : List ℕ) : Type 0 where
   pub once : (x : ℕ) → howMany (eq? x) xs ≤ 1
 
--- n results that are: n to 1
+-- n different results: n down to 1
 abbrev pub downFrom : ℕ → List ℕ
 downFrom zero = []
 downFrom (suc n) = suc n ∷ downFrom n

@@ -68,7 +68,7 @@ isEnding Open = false
 isEnding (Ended a b) = true
 isEnding (Refused k) = false
 
--- as three numbers: 0 open; 1 ended, with the two numbers of the p-value; 2 refused, with the number of the refusal
+-- as three numbers: 0 open; 1 ended, with numerator and denominator; 2 refused, with the number of the refusal
 abbrev pub kindOf : Answer → ℕ
 kindOf Open = 0
 kindOf (Ended a b) = 1

@@ -71,7 +71,7 @@ computed =
     ∷ (ordersAtMost 2 4 results 2 2 ∷ ordersAtMost 2 4 results 2 3 ∷ ordersAtMost 2 4 results 2 4 ∷ ordersAtMost 2 4 results 1 4 ∷ [])
     ∷ []
 
--- 0 open, 1 ended with a / b, 2 refused by a number
+-- as numbers
 abbrev answeredOpen : List ℕ
 answeredOpen = 0 ∷ 0 ∷ 0 ∷ []
 

@@ -1,4 +1,4 @@
-// A beginning and a draw (rules 13.1, 13.2).
+// A beginning and a draw (rules 13.1 to 13.3).
 
 use crate::Answer;
 use crate::Drawn;

@@ -7,7 +7,7 @@ ghost use mathlib.Core.Path.{_≡_};
 ghost use Prim.Native.Nat.{_≤_, _<_};
 ghost use Rattle.counting.specs.Run.{sizeLimit, sizesFit, isOver, isSound, answerOf};
 
-// 13, of any numbers.
+// Not refused by 13: of any numbers.
 pub(crate) fn sizes_fit(stop: u32, size: u32) -> bool
     ensures { λ r. ⌜ r ≡ sizesFit stop size ⌝ }
 {
@@ -20,7 +20,7 @@ pub(crate) fn sizes_fit(stop: u32, size: u32) -> bool
     size <= SIZE_LIMIT
 }
 
-// 10. Judged after 13.
+// Refused by 10. Judged after 13, so that there is a draw n - 1.
 pub(crate) fn is_over(r: Run) -> bool
     requires { ⌜ 1 ≤ r .size ⌝ }
     ensures { λ b. ⌜ b ≡ isOver r ⌝ }
@@ -31,7 +31,7 @@ pub(crate) fn is_over(r: Run) -> bool
     r.taken == r.size - 1
 }
 
-// 11, of any run.
+// Not refused by 11: of any run.
 pub(crate) fn is_sound(r: Run) -> bool
     ensures { λ b. ⌜ b ≡ isSound r ⌝ }
 {
@@ -44,7 +44,7 @@ pub(crate) fn is_sound(r: Run) -> bool
     r.ones <= r.taken
 }
 
-// The answer to a run after a draw.
+// The answer to a run after a draw. Where l = n - 1, one more than the ones must fit.
 pub(crate) fn answer_of(r: Run) -> Answer
     requires { ⌜ (1 ≤ r .size) × (r .ones ≤ sizeLimit) ⌝ }
     ensures { λ a. ⌜ a ≡ answerOf r ⌝ }

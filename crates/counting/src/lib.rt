@@ -13,7 +13,7 @@ pub struct Run {
     pub ones: u32,
 }
 
-// What a beginning or a draw answers: the p-value that a run ended with, as two numbers, not reduced; a refusal by its number.
+// What a beginning or a draw answers: open; the p-value that ended the run, numerator and denominator, not reduced; a refusal by its number.
 pub enum Answer {
     Open,
     Ended(u32, u32),

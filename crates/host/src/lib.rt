@@ -1,5 +1,5 @@
-// The entries of the library as C functions, for the comparison of `tests/`: any plan, state, words and bytes go in, and what an entry
-// hands back comes out.
+// The entries of the library as C functions, for the comparison of `tests/`: any plan, state, words, bytes and run go in, and what an
+// entry hands back comes out.
 
 mod plans;
 pub mod runs;

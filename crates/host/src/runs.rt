@@ -1,4 +1,4 @@
-// A run as it comes in, and with its answer as it goes out.
+// The entries of counting: a run as it comes in, and with its answer as it goes out.
 
 use crate::HostRun;
 use counting::Answer;
