@@ -48,7 +48,8 @@ module _ (h n : ℕ) (ok : InRange h n) where
   pub data Turn (l g d : ℕ) : Drawn → Type 0 where
     refuses-9 : 1 < d → Turn l g d (refused 9 (runOf h n l g))
     refuses-10 : d ≤ 1 → isOver (runOf h n l g) ≡ true → Turn l g d (refused 10 (runOf h n l g))
-    takes : d ≤ 1 → g < h → suc l < n → (a : Answer) → AnswerIs (l + 1) (g + d) a → Turn l g d (record { answer = a; run = runOf h n (l + 1) (g + d) })
+    takes : d ≤ 1 → g < h → suc l < n
+        → Turn l g d (record { answer = answerOf (runOf h n (l + 1) (g + d)); run = runOf h n (l + 1) (g + d) })
 
   pub turn : (l g d : ℕ) → g ≤ h → g ≤ l → l < n → Turn l g d (drawn (runOf h n l g) d)
   turn l g d gh gl ln = go (le? d 1) (le-view d 1) (eq? g h) (eq-view g h) (eq? l (n - 1)) (eq-view l (n - 1))
@@ -61,4 +62,4 @@ module _ (h n : ℕ) (ok : InRange h n) where
       go true (le p) true (same e) c w = over p (inl e)
       go true (le p) false v true (same e) = over p (inr e)
       go true (le p) false (other e) false (other f) =
-          rw (taken l g d p (omega arith) gl (omega arith)) (takes p (omega arith) (omega arith) _ (answer-is (l + 1) (g + d) (omega arith) (omega arith)))
+          rw (taken l g d p (omega arith) gl (omega arith)) (takes p (omega arith) (omega arith))

@@ -7,7 +7,7 @@ use Prim.Native.Nat.{ℕ, zero, suc, _+_, _*_, _≤_}
 use native.Mathlib.Omega.{arith}
 use lib.ListN.{length, getD, take, List·getD-append}
 use lib.Seq.{take-append-le, take-all}
-use Rattle.counting.specs.Tests.{le?, one, howMany}
+use Rattle.counting.specs.Tests.{le?, oneIf, howMany}
 use Rattle.counting.specs.Orders.{Different, picks, ordersOf, factorial}
 use Rattle.counting.proofs.Picks.{sumOver, sum-mul, sum-add, many-orders, orders-cong, picks-cong, picks-const, picks-last, others-length, others-differ, has-length}
 use Rattle.counting.proofs.Ranks.{ranks}
@@ -28,10 +28,10 @@ factorial-suc n = refl
 -- over all picks, what passes among the others
 others : (q : ℕ → Bool) (n : ℕ) (xs : List ℕ) → length xs ≡ suc n → sumOver (λ p. howMany q (p .others)) (picks xs) ≡ n * howMany q xs
 others q n xs d =
-    let whole : sumOver (λ p. one (q (p .last)) + howMany q (p .others)) (picks xs) ≡ length xs * howMany q xs =
+    let whole : sumOver (λ p. oneIf (q (p .last)) + howMany q (p .others)) (picks xs) ≡ length xs * howMany q xs =
     picks-cong xs _ (λ p. howMany q xs) (λ p k. k .pass q) ∙ picks-const xs (howMany q xs) in
     let m : length xs * howMany q xs ≡ suc n * howMany q xs = ap (λ (k : ℕ). k * howMany q xs) d in
-    omega (arith, sum-add (λ p. one (q (p .last))) (λ p. howMany q (p .others)) (picks xs), picks-last xs q)
+    omega (arith, sum-add (λ p. oneIf (q (p .last))) (λ p. howMany q (p .others)) (picks xs), picks-last xs q)
 
 firsts : (q : ℕ → Bool) (n : ℕ) (xs : List ℕ) → length xs ≡ suc n → howMany (λ o. q (first o)) (ordersOf (suc n) xs) ≡ howMany q xs * factorial n
 firsts q zero [] d = absurd (omega arith)

@@ -5,7 +5,7 @@ use mathlib.Core.List.{List, [], _∷_, _++_}
 use Prim.Native.Nat.{ℕ, zero, suc, _+_, _≤_, _<_}
 use native.Mathlib.Omega.{arith}
 use lib.ListN.{length}
-use Rattle.counting.specs.Tests.{eq?, same?, one, howMany}
+use Rattle.counting.specs.Tests.{eq?, same?, oneIf, howMany}
 use Rattle.counting.specs.Orders.{Different, downFrom, OrderOf, Pick, ordersOf, orders, AllOrders}
 use Rattle.counting.proofs.TestLaws.{Eq?, same, other, eq-view, eq-holds, eq-fails}
 use Rattle.counting.proofs.Picks.{Parts, Has, many-orders, many-append, many-cong, many-none, orders-cong, orders-number, picks-cong, picks-last, others-length, others-differ, has-length}
@@ -57,18 +57,18 @@ Once k = (xs : List ℕ) → length xs ≡ k → Different xs → (o : List ℕ)
 
 -- of the orders that end with a pick, the list that ends with a is one exactly where a was picked
 one-end : (a : ℕ) (f : List ℕ) (xs : List ℕ) (k : ℕ) (p : Pick) → Once k → length xs ≡ suc k → Different xs → OrderOf (f ++ (a ∷ [])) xs → Parts p xs
-    → howMany (λ o. same? (f ++ (a ∷ [])) (o ++ (p .last ∷ []))) (ordersOf k (p .others)) ≡ one (eq? a (p .last))
+    → howMany (λ o. same? (f ++ (a ∷ [])) (o ++ (p .last ∷ []))) (ordersOf k (p .others)) ≡ oneIf (eq? a (p .last))
 unfolding Once
 one-end a f xs k p ih e d order parts =
     many-cong _ _ (λ o. same-end f o a (p .last)) (ordersOf k (p .others))
     ∙ go (eq? a (p .last)) (eq-view a (p .last))
   where
-    go : (b : Bool) → Eq? a (p .last) b → howMany (λ o. b && same? f o) (ordersOf k (p .others)) ≡ one b
+    go : (b : Bool) → Eq? a (p .last) b → howMany (λ o. b && same? f o) (ordersOf k (p .others)) ≡ oneIf b
     go true (same q) =
         ih (p .others) (omega (arith, others-length p xs parts)) (others-differ p xs parts d) f
         (record {
           often = λ x.
-              let z : one (eq? x a) ≡ one (eq? x (p .last)) = ap (λ (w : ℕ). one (eq? x w)) q in
+              let z : oneIf (eq? x a) ≡ oneIf (eq? x (p .last)) = ap (λ (w : ℕ). oneIf (eq? x w)) q in
               omega (arith, order .often x, many-append (eq? x) f (a ∷ []), parts .pass (eq? x));
         })
     go false v = many-none (ordersOf k (p .others))
@@ -77,17 +77,17 @@ once-end : (k : ℕ) → Once k → (xs : List ℕ) → length xs ≡ suc k → 
     → howMany (same? (f ++ (a ∷ []))) (ordersOf (suc k) xs) ≡ 1
 once-end k ih xs e d f a order =
     many-orders (same? (f ++ (a ∷ []))) k xs
-    ∙ picks-cong xs _ (λ p. one (eq? a (p .last))) (λ p l. one-end a f xs k p ih e d order l)
+    ∙ picks-cong xs _ (λ p. oneIf (eq? a (p .last))) (λ p l. one-end a f xs k p ih e d order l)
     ∙ picks-last xs (eq? a)
-    ∙ omega (arith, d .once a, order .often a, many-append (eq? a) f (a ∷ []), ap one (eq-holds a a refl))
+    ∙ omega (arith, d .once a, order .often a, many-append (eq? a) f (a ∷ []), ap oneIf (eq-holds a a refl))
 
 once : (k : ℕ) → Once k
 unfolding Once
 once zero [] e d [] order = refl
-once zero [] e d (x ∷ o) order = absurd (omega (arith, order .often x, ap one (eq-holds x x refl)))
+once zero [] e d (x ∷ o) order = absurd (omega (arith, order .often x, ap oneIf (eq-holds x x refl)))
 once zero (y ∷ xs) e d o order = absurd (omega arith)
 once (suc k) [] e d o order = absurd (omega arith)
-once (suc k) (y ∷ xs) e d [] order = absurd (omega (arith, order .often y, ap one (eq-holds y y refl)))
+once (suc k) (y ∷ xs) e d [] order = absurd (omega (arith, order .often y, ap oneIf (eq-holds y y refl)))
 once (suc k) (y ∷ xs) e d (x ∷ o) order =
     let r = end-of x o in
     rw (r .is) (once-end k (once k) (y ∷ xs) e d (r .front) (r .last) (rw (r .is) at order))
@@ -132,7 +132,7 @@ pub down-differ : (n : ℕ) → Different (downFrom n)
 down-differ zero = record { once = λ x. omega arith }
 down-differ (suc n) = record { once = λ x. go x (eq? x (suc n)) (eq-view x (suc n)) (down-differ n .once x) }
   where
-    go : (x : ℕ) (b : Bool) → Eq? x (suc n) b → howMany (eq? x) (downFrom n) ≤ 1 → one b + howMany (eq? x) (downFrom n) ≤ 1
+    go : (x : ℕ) (b : Bool) → Eq? x (suc n) b → howMany (eq? x) (downFrom n) ≤ 1 → oneIf b + howMany (eq? x) (downFrom n) ≤ 1
     go x true (same e) r = omega (arith, none-above n x (omega arith))
     go x false v r = omega arith
 

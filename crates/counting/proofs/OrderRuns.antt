@@ -6,7 +6,7 @@ use Prim.Native.Nat.{ℕ, zero, suc, _+_, _-_, _*_, _≤_, _<_}
 use native.Mathlib.Nat.{mul-le-mul, mul-le-mul-right, mul-lt-mul-of-pos-left, le-of-mul-le-mul-right}
 use native.Mathlib.Omega.{arith}
 use lib.ListN.{length, take}
-use Rattle.counting.specs.Tests.{le?, one, howMany}
+use Rattle.counting.specs.Tests.{le?, oneIf, howMany}
 use Rattle.counting.specs.Run.{answerOf, runOf}
 use Rattle.counting.specs.Stopping.{orLater, ending}
 use Rattle.counting.specs.OneCall.{InRange}
@@ -20,13 +20,13 @@ use Rattle.counting.proofs.Firsts.{among}
 module _ (h n : ℕ) (ok : InRange h n) (x : ℕ) where
   -- the draws of the shuffles s beside the real result x, to a run that has taken l draws with g ones
   rest : List ℕ → ℕ → ℕ → Answer
-  rest s l g = ending (runOf h n l g) (map (λ y. one (le? x y)) s)
+  rest s l g = ending (runOf h n l g) (map (λ y. oneIf (le? x y)) s)
 
   -- one more shuffle
   step : (y : ℕ) (s : List ℕ) (l g : ℕ) → g < h → g ≤ l → suc l < n
-      → rest (y ∷ s) l g ≡ orLater (answerOf (runOf h n (l + 1) (g + one (le? x y)))) (rest s (l + 1) (g + one (le? x y)))
+      → rest (y ∷ s) l g ≡ orLater (answerOf (runOf h n (l + 1) (g + oneIf (le? x y)))) (rest s (l + 1) (g + oneIf (le? x y)))
   unfolding rest ending
-  step y s l g gh gl ln = rw (taken h n ok l g (one (le? x y)) (one-small (le? x y)) gh gl ln)
+  step y s l g gh gl ln = rw (taken h n ok l g (oneIf (le? x y)) (one-small (le? x y)) gh gl ln)
 
   -- ---- with n - 1 shuffles the run ends, with a value
 
@@ -40,8 +40,8 @@ module _ (h n : ℕ) (ok : InRange h n) (x : ℕ) where
   ends-at (y ∷ s) l g gh gl ln t =
       let small = one-small (le? x y) in
       rw (step y s l g gh gl ln)
-      (answered-at (l + 1) (g + one (le? x y)) _ _ (omega arith) (omega arith) (answer-is h n ok (l + 1) (g + one (le? x y)) (omega arith) (omega arith))
-      (λ p q. ends-at s (l + 1) (g + one (le? x y)) p (omega arith) q (omega arith)))
+      (answered-at (l + 1) (g + oneIf (le? x y)) _ _ (omega arith) (omega arith) (answer-is h n ok (l + 1) (g + oneIf (le? x y)) (omega arith) (omega arith))
+      (λ p q. ends-at s (l + 1) (g + oneIf (le? x y)) p (omega arith) q (omega arith)))
 
   -- ---- whether it is at most j / (m + 1): a value, so j is h unless m + 1 is n
 
@@ -77,16 +77,16 @@ module _ (h n : ℕ) (ok : InRange h n) (x : ℕ) where
         let small = one-small (le? x y) in
         let full = whole (omega arith) in
         rw (step y s l g gh gl ln)
-        (late (l + 1) (g + one (le? x y)) _ _ (omega arith) (omega arith)
-        (answer-is h n ok (l + 1) (g + one (le? x y)) (omega arith) (omega arith))
-        (λ p q. stops s (l + 1) (g + one (le? x y)) 0 (omega arith) p (omega arith) q (omega arith) ∙ le-holds _ _ (omega arith))
+        (late (l + 1) (g + oneIf (le? x y)) _ _ (omega arith) (omega arith)
+        (answer-is h n ok (l + 1) (g + oneIf (le? x y)) (omega arith) (omega arith))
+        (λ p q. stops s (l + 1) (g + oneIf (le? x y)) 0 (omega arith) p (omega arith) q (omega arith) ∙ le-holds _ _ (omega arith))
         ∙ sym (le-holds _ _ (omega arith)))
     stops (y ∷ s) l g (suc k) e gh gl ln t =
         let small = one-small (le? x y) in
         rw (step y s l g gh gl ln)
-        (early (l + 1) (g + one (le? x y)) (howMany (le? x) (take k s)) _ _ (omega arith) (λ q. empty k s (omega arith))
-        (answer-is h n ok (l + 1) (g + one (le? x y)) (omega arith) (omega arith))
-        (λ p q. stops s (l + 1) (g + one (le? x y)) k (omega arith) p (omega arith) q (omega arith))
+        (early (l + 1) (g + oneIf (le? x y)) (howMany (le? x) (take k s)) _ _ (omega arith) (λ q. empty k s (omega arith))
+        (answer-is h n ok (l + 1) (g + oneIf (le? x y)) (omega arith) (omega arith))
+        (λ p q. stops s (l + 1) (g + oneIf (le? x y)) k (omega arith) p (omega arith) q (omega arith))
         ∙ ap (λ (i : ℕ). le? (suc i) j) (omega arith))
 
 -- ---- of an order of n results

@@ -5,7 +5,7 @@ use mathlib.Core.List.{List, [], _∷_, _++_, map, flatMap}
 use Prim.Native.Nat.{ℕ, zero, suc, _+_, _*_}
 use native.Mathlib.Omega.{arith}
 use lib.ListN.{length}
-use Rattle.counting.specs.Tests.{eq?, one, howMany}
+use Rattle.counting.specs.Tests.{eq?, oneIf, howMany}
 use Rattle.counting.specs.Orders.{Different, Pick, behind, picks, ordersOf, factorial}
 
 -- ---- how many pass
@@ -56,7 +56,7 @@ many-each q f (p ∷ ps) = rw (many-append q (f p) (flatMap f ps), many-each q f
 
 -- a pick parts the list: whatever the test, what passes in xs is the one picked or among the others
 pub record Parts (p : Pick) (xs : List ℕ) : Type 0 where
-  pub pass : (test : ℕ → Bool) → one (test (p .last)) + howMany test (p .others) ≡ howMany test xs
+  pub pass : (test : ℕ → Bool) → oneIf (test (p .last)) + howMany test (p .others) ≡ howMany test xs
 
 pub picks-cong : (xs : List ℕ) (f g : Pick → ℕ) → ((p : Pick) → Parts p xs → f p ≡ g p) → sumOver f (picks xs) ≡ sumOver g (picks xs)
 picks-cong [] f g e = refl
@@ -73,9 +73,9 @@ picks-const [] k = omega arith
 picks-const (x ∷ xs) k = rw (sum-map (λ p. k) (behind x) (picks xs), picks-const xs k) (omega arith)
 
 -- over all picks, a test of the one picked counts what passes in the list
-pub picks-last : (xs : List ℕ) (test : ℕ → Bool) → sumOver (λ p. one (test (p .last))) (picks xs) ≡ howMany test xs
+pub picks-last : (xs : List ℕ) (test : ℕ → Bool) → sumOver (λ p. oneIf (test (p .last))) (picks xs) ≡ howMany test xs
 picks-last [] test = refl
-picks-last (x ∷ xs) test = rw (sum-map (λ p. one (test (p .last))) (behind x) (picks xs), picks-last xs test)
+picks-last (x ∷ xs) test = rw (sum-map (λ p. oneIf (test (p .last))) (behind x) (picks xs), picks-last xs test)
 
 pub others-length : (p : Pick) (xs : List ℕ) → Parts p xs → suc (length (p .others)) ≡ length xs
 others-length p xs k = rw (← many-all xs, ← many-all (p .others)) (omega (arith, k .pass (λ x. true)))

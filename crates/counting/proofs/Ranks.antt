@@ -6,16 +6,16 @@ use Prim.Native.Nat.{ℕ, zero, suc, _+_, _≤_, min}
 use native.Mathlib.Nat.{zero-add, suc-add, add-suc}
 use native.Mathlib.Omega.{arith}
 use lib.ListN.{length}
-use Rattle.counting.specs.Tests.{le?, eq?, one, howMany}
+use Rattle.counting.specs.Tests.{le?, eq?, oneIf, howMany}
 use Rattle.counting.specs.Orders.{Different}
 use Rattle.counting.proofs.TestLaws.{Le?, le, gt, le-view, Eq?, same, other, eq-view, le-holds, le-fails}
 use Rattle.counting.proofs.Picks.{many-cong, many-all, many-none}
 
 -- at least v: v itself, or at least v + 1; with any further test t
-split-one : (t : ℕ → Bool) (v x : ℕ) → one (le? v x && t x) ≡ one (eq? v x && t v) + one (le? (suc v) x && t x)
+split-one : (t : ℕ → Bool) (v x : ℕ) → oneIf (le? v x && t x) ≡ oneIf (eq? v x && t v) + oneIf (le? (suc v) x && t x)
 split-one t v x = go (le? v x) (eq? v x) (le? (suc v) x) (le-view v x) (eq-view v x) (le-view (suc v) x)
   where
-    go : (a b c : Bool) → Le? v x a → Eq? v x b → Le? (suc v) x c → one (a && t x) ≡ one (b && t v) + one (c && t x)
+    go : (a b c : Bool) → Le? v x a → Eq? v x b → Le? (suc v) x c → oneIf (a && t x) ≡ oneIf (b && t v) + oneIf (c && t x)
     go true true true (le p) (same q) (le r) = absurd (omega arith)
     go true true false (le p) (same q) (gt r) = rw q (omega arith)
     go true false true (le p) (other q) (le r) = omega arith
@@ -33,7 +33,7 @@ at-most : (p t : ℕ → Bool) (xs : List ℕ) → howMany (λ x. p x && t x) xs
 at-most p t [] = omega arith
 at-most p t (x ∷ xs) = go (p x) (t x) (at-most p t xs)
   where
-    go : (a b : Bool) → howMany (λ x. p x && t x) xs ≤ howMany p xs → one (a && b) + howMany (λ x. p x && t x) xs ≤ one a + howMany p xs
+    go : (a b : Bool) → howMany (λ x. p x && t x) xs ≤ howMany p xs → oneIf (a && b) + howMany (λ x. p x && t x) xs ≤ oneIf a + howMany p xs
     go true true r = omega arith
     go true false r = omega arith
     go false b r = omega arith

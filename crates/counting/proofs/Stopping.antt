@@ -1,34 +1,34 @@
 -- The stopping rule: a run over a list stands at the draws taken, and each draw is answered by where it stands.
 use mathlib.Core.Path.{_≡_, refl, sym, ap, ap₂, _∙_}
-use mathlib.Core.Logic.{inl, inr}
 use mathlib.Core.Bool.{Bool, true, false, cond, _||_, true≢false, false≢true}
 use mathlib.Core.List.{List, [], _∷_}
 use Prim.Native.Nat.{ℕ, zero, suc, _+_, _-_, _≤_, _<_}
 use native.Mathlib.Omega.{arith}
 use lib.ListN.{length}
-use Rattle.counting.specs.Tests.{eq?, one}
+use Rattle.counting.specs.Tests.{eq?, oneIf}
 use Rattle.counting.specs.Run.{isOver, answerOf, runOf, begun, drawn, isEnding, kindOf, firstOf}
-use Rattle.counting.specs.OneCall.{InRange, Bit, Over, Answers}
+use Rattle.counting.specs.OneCall.{InRange, Bit}
 use Rattle.counting.specs.Stopping.{after, takenBy, drawsTaken, orLater, ending, ones, AnswersDraw, StopTheorem}
 use Rattle.counting.specs.declared.Run.{Run}
 use Rattle.counting.specs.declared.Drawn.{Drawn}
 use Rattle.counting.specs.declared.Answer.{Answer}
-use Rattle.counting.specs.declared.Answer.the-variants.{Open, Ended}
+use Rattle.counting.specs.declared.Answer.the-variants.{Open, Ended, Refused}
 use Rattle.counting.proofs.TestLaws.{eq-holds, eq-fails}
-use Rattle.counting.proofs.JudgingLaws.{bit, small, over-holds, answer-says}
+use Rattle.counting.proofs.JudgingLaws.{bit, small, answer-says}
 use Rattle.counting.proofs.OneCall.{one-call}
-use Rattle.counting.proofs.Carried.{goes-on, AnswerIs, stopped, spent, going, Turn, refuses-9, refuses-10, takes, turn}
+use Rattle.counting.proofs.Carried.{goes-on, Turn, refuses-9, refuses-10, takes, turn}
 
 -- a draw of 0 or 1 counts itself among the ones
-count-one : (d : ℕ) → d ≤ 1 → one (eq? 1 d) ≡ d
-count-one zero h = ap one (eq-fails 1 0 (λ e. omega arith))
-count-one (suc zero) h = ap one (eq-holds 1 1 refl)
+count-one : (d : ℕ) → d ≤ 1 → oneIf (eq? 1 d) ≡ d
+count-one zero h = ap oneIf (eq-fails 1 0 (λ e. omega arith))
+count-one (suc zero) h = ap oneIf (eq-holds 1 1 refl)
 count-one (suc (suc d)) h = absurd (omega arith)
 
 no-bit : (d : ℕ) → 1 < d → ¬ (Bit d)
 no-bit d h b = omega (arith, small d b)
 
--- the answer to a run ends it exactly where 10 refuses
+-- ---- the answer rule: it ends a run exactly where 10 refuses, and refuses nothing
+
 ending-over : (r : Run) → isEnding (answerOf r) ≡ isOver r
 unfolding answerOf isOver
 ending-over r = go (eq? (r .ones) (r .stop)) (eq? (r .taken) (r .size - 1))
@@ -37,6 +37,37 @@ ending-over r = go (eq? (r .ones) (r .stop)) (eq? (r .taken) (r .size - 1))
     go true b = refl
     go false true = refl
     go false false = refl
+
+no-refusal : (r : Run) → kindOf (answerOf r) < 2
+unfolding answerOf
+no-refusal r = go (eq? (r .ones) (r .stop)) (eq? (r .taken) (r .size - 1))
+  where
+    go : (a b : Bool) → kindOf (cond a (Ended (r .stop) (r .taken)) (cond b (Ended (r .ones + 1) (r .size)) Open)) < 2
+    go true b = omega arith
+    go false true = omega arith
+    go false false = omega arith
+
+-- so a draw that it answers is taken
+is-taken : (a : Answer) (d : ℕ) (s : List ℕ) → kindOf a < 2 → takenBy a d s ≡ d ∷ s
+is-taken Open d s k = refl
+is-taken (Ended a b) d s k = refl
+is-taken (Refused r) d s k = absurd (omega arith)
+
+-- an ending answer stays, and an open one waits for a later one
+ending-stays : (a x : Answer) → isEnding a ≡ true → orLater a x ≡ a
+ending-stays Open x e = absurd (false≢true e)
+ending-stays (Ended a b) x e = refl
+ending-stays (Refused r) x e = absurd (false≢true e)
+
+open-waits : (a x : Answer) → isEnding a ≡ false → orLater a x ≡ x
+open-waits Open x e = refl
+open-waits (Ended a b) x e = absurd (true≢false e)
+open-waits (Refused r) x e = refl
+
+open-answer : (a : Answer) → isEnding a ≡ false → kindOf a < 2 → a ≡ Open
+open-answer Open e k = refl
+open-answer (Ended a b) e k = absurd (true≢false e)
+open-answer (Refused r) e k = absurd (omega arith)
 
 module _ (h n : ℕ) (ok : InRange h n) where
   -- from l draws with g ones the run came to e with the draws s, and was ended by a; where it was over, nothing changed
@@ -52,29 +83,23 @@ module _ (h n : ℕ) (ok : InRange h n) where
   run-same e f = ap₂ {C = Run} (λ (l g : ℕ). runOf h n l g) e f
 
   -- one draw before these
-  further : (l g d : ℕ) (e : Run) (s : List ℕ) → d ≤ 1 → g < h → suc l < n → (a x : Answer) → AnswerIs h n ok (l + 1) (g + d) a
-      → Comes (l + 1) (g + d) e s x → Comes l g e (d ∷ s) (orLater a x)
-  further l g d e s b gh ln a x v c = record {
+  further : (l g d : ℕ) (e : Run) (s : List ℕ) (x : Answer) → d ≤ 1 → g < h → suc l < n → Comes (l + 1) (g + d) e s x
+      → Comes l g e (d ∷ s) (orLater (answerOf (runOf h n (l + 1) (g + d))) x)
+  further l g d e s x b gh ln c = record {
     stands = c .stands ∙ run-same (omega arith) (omega (arith, count-one d b));
     few = omega (arith, count-one d b, c .few);
     fewer = omega (arith, count-one d b, c .fewer);
     early = omega (arith, c .early);
     if-over = λ t. absurd (true≢false (sym t ∙ goes-on h n ok l g gh ln));
-    if-going = λ t. go a v;
+    if-going = λ t. go (isOver next) refl;
   }
     where
       next : Run
       next = runOf h n (l + 1) (g + d)
 
-      says : Answers h n (l + 1) (g + d) (answerOf next)
-      says = answer-says h n (l + 1) (g + d)
-
-      go : (a : Answer) → AnswerIs h n ok (l + 1) (g + d) a → orLater a x ≡ answerOf e
-      go _ (stopped p) = sym (says .at-stop p) ∙ ap answerOf (sym (c .if-over (over-holds next (inl p))))
-      go _ (spent p q) =
-          let last : l + 1 ≡ n - 1 = omega arith in
-          sym (says .at-size (λ z. omega arith) last) ∙ ap answerOf (sym (c .if-over (over-holds next (inr last))))
-      go _ (going p q) = c .if-going (goes-on h n ok (l + 1) (g + d) p q)
+      go : (over : Bool) → isOver next ≡ over → orLater (answerOf next) x ≡ answerOf e
+      go true t = ending-stays (answerOf next) x (ending-over next ∙ t) ∙ ap answerOf (sym (c .if-over t))
+      go false t = open-waits (answerOf next) x (ending-over next ∙ t) ∙ c .if-going t
 
   comes : (ds : List ℕ) (l g : ℕ) → g ≤ h → g ≤ l → l < n
       → Comes l g (after (runOf h n l g) ds) (drawsTaken (runOf h n l g) ds) (ending (runOf h n l g) ds)
@@ -85,9 +110,7 @@ module _ (h n : ℕ) (ok : InRange h n) where
     fewer = omega arith;
     early = omega arith;
     if-over = λ t. refl;
-    if-going = λ t.
-        let none : ¬ (Over (runOf h n l g)) = λ z. absurd (true≢false (sym (over-holds (runOf h n l g) z) ∙ t)) in
-        sym (answer-says h n l g .else-open (λ z. none (inl z)) (λ z. none (inr z)));
+    if-going = λ t. sym (open-answer _ (ending-over (runOf h n l g) ∙ t) (no-refusal (runOf h n l g)));
   }
   comes (d ∷ ds) l g gh gl ln = go (drawn (runOf h n l g) d) (turn h n ok l g d gh gl ln) (comes ds)
     where
@@ -96,12 +119,9 @@ module _ (h n : ℕ) (ok : InRange h n) where
           → Comes l g (after (c .run) ds) (takenBy (c .answer) d (drawsTaken (c .run) ds)) (orLater (c .answer) (ending (c .run) ds))
       go _ (refuses-9 p) rest = rest l g gh gl ln
       go _ (refuses-10 p q) rest = rest l g gh gl ln
-      go _ (takes p q r a v) rest = taking a v (further l g d _ _ p q r a _ v (rest (l + 1) (g + d) (omega arith) (omega arith) (omega arith)))
-        where
-          taking : (a : Answer) → AnswerIs h n ok (l + 1) (g + d) a → {e : Run} {s : List ℕ} {x : Answer} → Comes l g e (d ∷ s) x → Comes l g e (takenBy a d s) x
-          taking _ (stopped t) c = c
-          taking _ (spent t u) c = c
-          taking _ (going t u) c = c
+      go _ (takes p q r) rest =
+          rw (is-taken _ d (drawsTaken (runOf h n (l + 1) (g + d)) ds) (no-refusal (runOf h n (l + 1) (g + d))))
+          (further l g d _ _ _ p q r (rest (l + 1) (g + d) (omega arith) (omega arith) (omega arith)))
 
   -- the answer to a draw, by where the run stands
   answers : (s : List ℕ) (ended : Bool) (d : ℕ) (c : Drawn) → ended ≡ isOver (runOf h n (length s) (ones s))
@@ -116,28 +136,12 @@ module _ (h n : ℕ) (ok : InRange h n) where
     by-10 = (λ q. (bit d p, e ∙ t), λ q. refl);
     else-taken = λ b q. absurd (false≢true (sym q ∙ e ∙ t));
   }
-  answers s ended d _ e (takes p q r a v) = record {
-    by-9 = (λ w. absurd (omega (arith, kind a v, ap kindOf w)), λ w. absurd (w (bit d p)));
-    by-10 = (λ w. absurd (omega (arith, kind a v, ap kindOf w)), λ w. absurd (true≢false (sym (w .1) ∙ e ∙ goes-on h n ok _ _ q r)));
-    else-taken = λ b w. (q, omega arith, words a v);
-  }
-    where
-      kind : (a : Answer) → AnswerIs h n ok (length s + 1) (ones s + d) a → kindOf a < 2
-      kind _ (stopped t) = omega arith
-      kind _ (spent t u) = omega arith
-      kind _ (going t u) = omega arith
-
-      words : (a : Answer) → AnswerIs h n ok (length s + 1) (ones s + d) a → Answers h n (length s + 1) (ones s + d) a
-      words _ (stopped t) = record { at-stop = λ w. refl; at-size = λ w z. absurd (w t); else-open = λ w z. absurd (w t) }
-      words _ (spent t u) = record {
-        at-stop = λ w. absurd (omega arith);
-        at-size = λ w z. refl;
-        else-open = λ w z. absurd (z (omega arith));
-      }
-      words _ (going t u) = record {
-        at-stop = λ w. absurd (omega arith);
-        at-size = λ w z. absurd (omega arith);
-        else-open = λ w z. refl;
+  answers s ended d _ e (takes p q r) =
+      let kind = no-refusal (runOf h n (length s + 1) (ones s + d)) in
+      record {
+        by-9 = (λ w. absurd (omega (arith, kind, ap kindOf w)), λ w. absurd (w (bit d p)));
+        by-10 = (λ w. absurd (omega (arith, kind, ap kindOf w)), λ w. absurd (true≢false (sym (w .1) ∙ e ∙ goes-on h n ok _ _ q r)));
+        else-taken = λ b w. (q, omega arith, answer-says h n (length s + 1) (ones s + d));
       }
 
   -- ---- from a beginning

@@ -5,7 +5,7 @@ use Prim.Native.Nat.{ℕ, suc, _≤_, _<_, suc-le-suc}
 use native.Mathlib.Omega.{arith}
 use lib.Dec.{leb, eqb}
 use borrow.Author.Tests.{leb-true, leb-false, le-leb, lt-leb, eqb-true, eqb-false, eq-eqb, ne-eqb}
-use Rattle.counting.specs.Tests.{le?, lt?, eq?, one}
+use Rattle.counting.specs.Tests.{le?, lt?, eq?, oneIf}
 
 -- which way a test goes, with what it says
 pub data Le? (m n : ℕ) : Bool → Type 0 where
@@ -77,6 +77,6 @@ three-say true true false e = absurd (false≢true e)
 three-say true false c e = absurd (false≢true e)
 three-say false b c e = absurd (false≢true e)
 
-pub one-small : (b : Bool) → one b ≤ 1
+pub one-small : (b : Bool) → oneIf b ≤ 1
 one-small true = omega arith
 one-small false = omega arith

@@ -4,7 +4,7 @@ use mathlib.Core.Bool.{Bool, false}
 use mathlib.Core.List.{List, [], _∷_, map}
 use Prim.Native.Nat.{ℕ, _*_, _≤_, _<_}
 use lib.ListN.{length}
-use Rattle.counting.specs.Tests.{le?, one, howMany}
+use Rattle.counting.specs.Tests.{le?, oneIf, howMany}
 use Rattle.counting.specs.Run.{begun}
 use Rattle.counting.specs.Stopping.{ending}
 use Rattle.counting.specs.OneCall.{InRange}
@@ -17,7 +17,7 @@ use Rattle.counting.specs.declared.Answer.the-variants.{Open, Ended, Ref
 -- the first result is the real one; each later one gives the draw 1 where it is at least the real one, else 0
 abbrev pub draws : List ℕ → List ℕ
 draws [] = []
-draws (real ∷ shuffles) = map (λ x. one (le? real x)) shuffles
+draws (real ∷ shuffles) = map (λ x. oneIf (le? real x)) shuffles
 
 -- the answer that ends it
 unfoldable pub answerTo : ℕ → ℕ → List ℕ → Answer

@@ -22,11 +22,11 @@ same? (x ∷ xs) [] = false
 same? (x ∷ xs) (y ∷ ys) = eq? x y && same? xs ys
 
 -- 1 where a test passes, else 0
-abbrev pub one : Bool → ℕ
-one true = 1
-one false = 0
+abbrev pub oneIf : Bool → ℕ
+oneIf true = 1
+oneIf false = 0
 
 -- how many of a list pass
 abbrev pub howMany : {A : Type 0} → (A → Bool) → List A → ℕ
 howMany test [] = 0
-howMany test (x ∷ xs) = one (test x) + howMany test xs
+howMany test (x ∷ xs) = oneIf (test x) + howMany test xs

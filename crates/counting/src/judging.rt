@@ -4,7 +4,7 @@ use crate::Answer;
 use crate::Run;
 use crate::SIZE_LIMIT;
 ghost use mathlib.Core.Path.{_≡_};
-ghost use Prim.Native.Nat.{_≤_, _<_};
+ghost use Prim.Native.Nat.{_≤_};
 ghost use Rattle.counting.specs.Run.{sizeLimit, sizesFit, isOver, isSound, answerOf};
 
 // Not refused by 13: of any numbers.
