@@ -2,14 +2,15 @@
 use mathlib.Core.Path.{_≡_, refl}
 use mathlib.Core.Bool.{true}
 use mathlib.Core.List.{List, [], _∷_}
-use mathlib.Core.Logic.{_↔_, inl, inr}
-use Prim.Native.Nat.{ℕ, zero, suc, _≤_, _<_}
+use mathlib.Core.Logic.{_↔_, inl, inr, ⊎-elim}
+use Prim.Native.Nat.{ℕ, zero, suc, _+_, _-_, _≤_, _<_}
+use native.Mathlib.Nat.{eq-or-lt-of-le}
 use native.Mathlib.Omega.{arith}
 use Rattle.walk.specs.Units.{million, allowanceLimit, horizonLimit}
 use Rattle.walk.specs.Spending.{IsSpending}
 use Rattle.walk.proofs.SpendingLaws.{spending-is}
 use Rattle.plan.specs.Places.{unless, firstRefusal}
-use Rattle.plan.specs.Plan.{countLimit, bucketLimit, thresholdLimit, delayLimit, countsFit, thresholdAt, allowanceAt, leftAt, rightAt, spendingOf, rule1, aboveBefore, rule2, rule3, rule4, permitted, bucketFits, rule5, rule6, planRefusal, Permitted, Covered, Accepted, AcceptedTheorem}
+use Rattle.plan.specs.Plan.{countLimit, bucketLimit, thresholdLimit, leastDifference, delayLimit, countsFit, thresholdAt, allowanceAt, leftAt, rightAt, spendingOf, rule1, aboveBefore, rule2, rule14, rule3, rule4, permitted, bucketFits, rule5, rule6, planRefusal, Apart, Permitted, Covered, Accepted, AcceptedTheorem, ApartTheorem}
 use Rattle.plan.specs.declared.Plan.{Plan}
 use Rattle.plan.proofs.PlaceLaws.{both, either, neither, le-reads, eq-reads, within-reads, all-say, any-say, none-says}
 use Rattle.plan.proofs.Cover.{covers}
@@ -44,6 +45,12 @@ module _ (p : Plan) where
   pub rule2-says : (rule2 p ≡ true) ↔ Rising
   unfolding rule2
   rule2-says = all-say _ (λ i. both (within-reads 1 thresholdLimit (thresholdAt p i)) (above-says i)) (p .count)
+
+  pub rule14-says : (rule14 p ≡ true) ↔ Apart p
+  unfolding rule14
+  rule14-says =
+      let pairs = all-say _ (λ i. le-reads _ (thresholdAt p (suc i))) (p .count - 1) in
+      (λ e i l. pairs .0 e i (omega arith), λ a. pairs .1 (λ i l. a i (omega arith)))
 
   abbrev pub Allowed : Type 0
   Allowed = (i : ℕ) → i < p .count → (1 ≤ allowanceAt p i) × (allowanceAt p i ≤ allowanceLimit)
@@ -94,28 +101,33 @@ module _ (p : Plan) where
   abbrev pub from3 : List ℕ
   from3 = unless (rule3 p) 3 ∷ from4
 
+  abbrev pub from14 : List ℕ
+  from14 = unless (rule14 p) 14 ∷ from3
+
   abbrev pub from2 : List ℕ
-  from2 = unless (rule2 p) 2 ∷ from3
+  from2 = unless (rule2 p) 2 ∷ from14
 
   abbrev Kept : Type 0
-  Kept = Counted (p .count) (p .buckets) × (Rising × (Allowed × (Timed × (Fitting × (Covered p × (firstRefusal [] ≡ 0))))))
+  Kept = Counted (p .count) (p .buckets) × (Rising × (Apart p × (Allowed × (Timed × (Fitting × (Covered p × (firstRefusal [] ≡ 0)))))))
 
   kept : (planRefusal p ≡ 0) ↔ Kept
   unfolding planRefusal
   kept =
       none-says (rule1 p) 0 from2 rule1-says
-      (none-says (rule2 p) 1 from3 rule2-says
+      (none-says (rule2 p) 1 from14 rule2-says
+      (none-says (rule14 p) 13 from3 rule14-says
       (none-says (rule3 p) 2 from4 rule3-says
       (none-says (rule4 p) 3 from5 rule4-says
       (none-says (rule5 p) 4 from6 rule5-says
-      (none-says (rule6 p) 5 [] (covers p) (λ e. e, λ e. e))))))
+      (none-says (rule6 p) 5 [] (covers p) (λ e. e, λ e. e)))))))
 
   gives : Kept → Accepted p
-  gives (counts, (rising, (allowed, (times, (fits, (covered, none)))))) = record {
+  gives (counts, (rising, (apart, (allowed, (times, (fits, (covered, none))))))) = record {
     count-range = counts .0;
     buckets-range = counts .1;
     threshold-range = λ i l. rising i l .0;
     thresholds-rise = λ i l. rising (suc i) l .1;
+    thresholds-apart = apart;
     allowance-range = allowed;
     delay-range = times .0;
     horizon-range = times .1;
@@ -129,7 +141,7 @@ module _ (p : Plan) where
   keeps a =
       let rising : Rising = λ i l. (a .threshold-range i l, above i l) in
       let fits : Fitting = λ j l. (a .ends-order j l, (a .not-whole j l, a .ends-permitted j l)) in
-      ((a .count-range, a .buckets-range), (rising, (a .allowance-range, ((a .delay-range, a .horizon-range), (fits, (a .covered, refl))))))
+      ((a .count-range, a .buckets-range), (rising, (a .thresholds-apart, (a .allowance-range, ((a .delay-range, a .horizon-range), (fits, (a .covered, refl)))))))
     where
       above : (i : ℕ) → i < p .count → Above i
       above zero l = tt
@@ -139,6 +151,15 @@ pub accepted : AcceptedTheorem
 accepted p = (λ e. gives p (kept p .0 e), λ a. kept p .1 (keeps p a))
 
 -- ---- what an accepted plan gives
+
+pub apart : ApartTheorem
+apart p ok = (ok .count-range .1, any-two)
+  where
+    any-two : (i j : ℕ) → i < j → j < p .count → thresholdAt p i + leastDifference ≤ thresholdAt p j
+    any-two i zero l k = absurd (omega arith)
+    any-two i (suc j) l k =
+        ⊎-elim (λ e. let z : i ≡ j = omega arith in rw z (ok .thresholds-apart j k))
+        (λ m. omega (arith, any-two i j (omega arith) (omega arith), ok .thresholds-apart j k)) (eq-or-lt-of-le l)
 
 module _ (p : Plan) where
   -- an end is at most a million

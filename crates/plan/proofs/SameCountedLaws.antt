@@ -2,13 +2,13 @@
 use mathlib.Core.Path.{_≡_, refl, sym, subst, ap}
 use mathlib.Core.Bool.{Bool, _&&_, _||_}
 use mathlib.Core.List.{List}
-use Prim.Native.Nat.{ℕ, zero, suc, _<_}
+use Prim.Native.Nat.{ℕ, zero, suc, _-_, _<_}
 use native.Mathlib.Omega.{arith}
 use lib.ListN.{getD}
 use Rattle.walk.specs.Numbers.{le?}
 use Rattle.walk.specs.Units.{million}
 use Rattle.plan.specs.Places.{eq?}
-use Rattle.plan.specs.Plan.{thresholdAt, allowanceAt, leftAt, rightAt, spendingOf, rule1, aboveBefore, rule2, rule3, rule4, permitted, bucketFits, rule5, coveredAbove, rule6, planRefusal}
+use Rattle.plan.specs.Plan.{thresholdAt, allowanceAt, leftAt, rightAt, spendingOf, rule1, aboveBefore, rule2, rule14, rule3, rule4, permitted, bucketFits, rule5, coveredAbove, rule6, planRefusal}
 use Rattle.plan.specs.SameCounted.{SameCounted, SameRules, SameRulesTheorem}
 use Rattle.plan.specs.declared.Plan.{Plan}
 use Rattle.plan.proofs.PlaceLaws.{all-cong, any-cong}
@@ -51,6 +51,10 @@ module _ (p : Plan) (thresholds allowances left right : List ℕ)
   unfolding rule2
   rule2-same = all-cong (p .count) _ _ (λ i l. rw (entries i l .0, before-same i l))
 
+  rule14-same : rule14 q ≡ rule14 p
+  unfolding rule14
+  rule14-same = all-cong (p .count - 1) _ _ (λ i l. rw (entries i (omega arith) .0, entries (suc i) (omega arith) .0))
+
   rule3-same : rule3 q ≡ rule3 p
   unfolding rule3
   rule3-same = all-cong (p .count) _ _ (λ i l. rw (entries i l .1))
@@ -75,7 +79,7 @@ module _ (p : Plan) (thresholds allowances left right : List ℕ)
 
   refusal-same : planRefusal q ≡ planRefusal p
   unfolding planRefusal rule1 rule4
-  refusal-same = rw (rule2-same, rule3-same, rule5-same, rule6-same)
+  refusal-same = rw (rule2-same, rule14-same, rule3-same, rule5-same, rule6-same)
 
   places-same : SameRules p q
   places-same = record { refusal-same = refusal-same; spending-same = spending-same }

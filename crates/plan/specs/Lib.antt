@@ -3,3 +3,4 @@ pub mod Places
 pub mod Plan
 pub mod SameCounted
 pub mod PlanF
+pub mod Trials

@@ -3,7 +3,7 @@ use mathlib.Core.Bool.{Bool, true, not, _&&_, _||_}
 use mathlib.Core.List.{[], _∷_}
 use mathlib.Core.Logic.{_⊎_, _↔_}
 use mathlib.Core.Path.{_≡_}
-use Prim.Native.Nat.{ℕ, zero, suc, _*_, _≤_, _<_}
+use Prim.Native.Nat.{ℕ, zero, suc, _+_, _*_, _-_, _≤_, _<_}
 use lib.ListN.{getD}
 use Rattle.walk.specs.Numbers.{le?, lt?}
 use Rattle.walk.specs.Units.{million, allowanceLimit, horizonLimit}
@@ -11,8 +11,8 @@ use Rattle.walk.specs.Spending.{spending}
 use Rattle.plan.specs.Places.{eq?, within, allTo, anyTo, unless, firstRefusal}
 use Rattle.plan.specs.declared.Plan.{Plan}
 
--- the most thresholds and buckets, the largest threshold, in millionths, and the largest delay (rules 1.4; the largest allowance and
--- horizon are in walk/specs/Units)
+-- the most thresholds and buckets, the largest threshold and the least difference of neighbouring ones, in millionths, and the largest
+-- delay (rules 1.4; the largest allowance and horizon are in walk/specs/Units)
 abbrev pub countLimit : ℕ
 countLimit = 10
 
@@ -21,6 +21,9 @@ bucketLimit = 16
 
 abbrev pub thresholdLimit : ℕ
 thresholdLimit = 999999
+
+abbrev pub leastDifference : ℕ
+leastDifference = 100
 
 abbrev pub delayLimit : ℕ
 delayLimit = 65535
@@ -61,6 +64,13 @@ module _ (p : Plan) where
   unfoldable pub rule2 : Bool
   rule2 = allTo (p .count) (λ i. within 1 thresholdLimit (thresholdAt i) && aboveBefore i)
 
+  -- 14: every two neighbouring thresholds differ by at least 100 millionths
+  abbrev pub apartFromNext : ℕ → Bool
+  apartFromNext i = le? (thresholdAt i + leastDifference) (thresholdAt (suc i))
+
+  unfoldable pub rule14 : Bool
+  rule14 = allTo (p .count - 1) apartFromNext
+
   -- 3: each allowance in its range
   unfoldable pub rule3 : Bool
   rule3 = allTo (p .count) (λ i. within 1 allowanceLimit (allowanceAt i))
@@ -90,12 +100,16 @@ module _ (p : Plan) where
   unfoldable pub rule6 : Bool
   rule6 = anyTo (p .buckets) (λ j. eq? (leftAt j) 0) && allTo (p .buckets) (λ j. coveredAbove (rightAt j))
 
-  -- ---- the refusal of a plan, 0 for an accepted one: 1 to 6, each number over all entries before the next
+  -- ---- the refusal of a plan, 0 for an accepted one: 1, 2, 14, 3, 4, 5, 6, each number over all entries before the next
 
   unfoldable pub planRefusal : ℕ
-  planRefusal = firstRefusal (unless rule1 1 ∷ unless rule2 2 ∷ unless rule3 3 ∷ unless rule4 4 ∷ unless rule5 5 ∷ unless rule6 6 ∷ [])
+  planRefusal = firstRefusal (unless rule1 1 ∷ unless rule2 2 ∷ unless rule14 14 ∷ unless rule3 3 ∷ unless rule4 4 ∷ unless rule5 5 ∷ unless rule6 6 ∷ [])
 
   -- ---- the rules in words. proofs/AcceptedLaws shows that a plan has no refusal exactly when it keeps them.
+
+  -- every two neighbouring thresholds differ by at least 100 millionths
+  abbrev pub Apart : Type 0
+  Apart = (i : ℕ) → suc i < p .count → thresholdAt i + leastDifference ≤ thresholdAt (suc i)
 
   abbrev pub Permitted : ℕ → Type 0
   Permitted e = (e ≡ 0) ⊎ ((e ≡ million) ⊎ ((i : ℕ) × (i < p .count) × (e ≡ thresholdAt i)))
@@ -114,6 +128,7 @@ module _ (p : Plan) where
     pub buckets-range : (2 ≤ p .buckets) × (p .buckets ≤ bucketLimit)
     pub threshold-range : (i : ℕ) → i < p .count → (1 ≤ thresholdAt i) × (thresholdAt i ≤ thresholdLimit)
     pub thresholds-rise : (i : ℕ) → suc i < p .count → thresholdAt i < thresholdAt (suc i)
+    pub thresholds-apart : Apart
     pub allowance-range : (i : ℕ) → i < p .count → (1 ≤ allowanceAt i) × (allowanceAt i ≤ allowanceLimit)
     pub delay-range : (1 ≤ p .delay) × (p .delay ≤ delayLimit)
     pub horizon-range : (1 ≤ p .horizon) × (p .horizon ≤ horizonLimit)
@@ -129,3 +144,9 @@ CoveredTheorem = (p : Plan) → (rule6 p ≡ true) ↔ Covered p
 -- .. and a plan has no refusal exactly when it is accepted
 abbrev pub AcceptedTheorem : Type 0
 AcceptedTheorem = (p : Plan) → (planRefusal p ≡ 0) ↔ Accepted p
+
+-- an accepted plan has at most ten thresholds, and not only neighbours: any two of them lie at least 100 millionths apart
+abbrev pub ApartTheorem : Type 0
+ApartTheorem =
+    (p : Plan) → Accepted p
+    → (p .count ≤ countLimit) × ((i j : ℕ) → i < j → j < p .count → thresholdAt p i + leastDifference ≤ thresholdAt p j)

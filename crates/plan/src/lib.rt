@@ -6,8 +6,10 @@ pub const COUNT_LIMIT: usize = 10;
 
 pub const BUCKET_LIMIT: usize = 16;
 
-// The largest threshold, in millionths, and the largest delay.
+// The largest threshold and the least difference of neighbouring ones, in millionths, and the largest delay.
 pub const THRESHOLD_LIMIT: u32 = 999999;
+
+pub const LEAST_DIFFERENCE: u32 = 100;
 
 pub const DELAY_LIMIT: u32 = 65535;
 

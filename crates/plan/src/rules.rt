@@ -1,12 +1,14 @@
-// The plan's rules: refusals 1 to 6 in their order, each over all entries before the next (rules 1.4, 8.2).
+// The plan's rules: refusals 1, 2, 14, 3, 4, 5, 6 in this order, each over all entries before the next (rules 1.4, 8.2).
+ghost use mathlib.Core.Bool.{true};
 ghost use mathlib.Core.Path.{_≡_};
 ghost use Prim.Native.Nat.{ℕ, _≤_};
 ghost use lib.ListN.{length, getD};
 ghost use Rattle.plan.specs.Places.{eq?, within, allTo, anyTo};
-ghost use Rattle.plan.specs.Plan.{countLimit, bucketLimit, countsFit, leftAt, rightAt, rule2, rule3, rule4, permitted, bucketFits, rule5, coveredAbove, rule6, planRefusal};
+ghost use Rattle.plan.specs.Plan.{countLimit, bucketLimit, countsFit, leftAt, rightAt, rule2, rule14, rule3, rule4, permitted, bucketFits, rule5, coveredAbove, rule6, planRefusal};
 use crate::BUCKET_LIMIT;
 use crate::COUNT_LIMIT;
 use crate::DELAY_LIMIT;
+use crate::LEAST_DIFFERENCE;
 use crate::Plan;
 use crate::THRESHOLD_LIMIT;
 use walk::ALLOWANCE_LIMIT;
@@ -48,6 +50,22 @@ fn thresholds_rise(p: Plan) -> bool
             return false;
         }
         before = t;
+    }
+    true
+}
+
+// Rule 14: every two neighbouring thresholds differ by at least 100 millionths. Judged after rules 1 and 2, so each is above the one before.
+fn thresholds_apart(p: Plan) -> bool
+    requires { ⌜ ((1 ≤ p .count) × (p .count ≤ countLimit)) × (rule2 p ≡ true) ⌝ }
+    ensures { λ r. ⌜ r ≡ rule14 p ⌝ }
+{
+    let pairs = p.count as usize - 1;
+    for i in 0..pairs {
+        let before = p.thresholds[i];
+        let t = p.thresholds[i + 1];
+        if t - before < LEAST_DIFFERENCE {
+            return false;
+        }
     }
     true
 }
@@ -191,6 +209,9 @@ pub fn plan_refusal(p: Plan) -> u32
     }
     if !thresholds_rise(p) {
         return 2;
+    }
+    if !thresholds_apart(p) {
+        return 14;
     }
     if !allowances_fit(p) {
         return 3;

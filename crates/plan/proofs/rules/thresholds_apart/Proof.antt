@@ -1,0 +1,97 @@
+-- The neighbours before place i differ enough.
+use mathlib.Core.Bool.{false}
+use Prim.Native.Nat.{suc, _-_, _<_}
+use native.Mathlib.Numerals.{add-one}
+use native.Mathlib.Omega.{arith}
+use borrow.Author.Needs.{needs}
+use Rattle.walk.proofs.Tests.{le?-complete, le?-fails}
+use Rattle.plan.specs.Plan.{thresholdAt, apartFromNext, rule14}
+use Rattle.plan.proofs.PlaceLaws.{Sought, sought-none, sought-next, sought-here, sought-nowhere}
+use Rattle.plan.proofs.AcceptedLaws.{rule2-says}
+use Rattle.plan.proofs.rules.thresholds_apart.Statement.{statement}
+use Rattle.plan.proofs.rules.thresholds_apart.Tie as tie
+
+abbrev Inv-loop : tie.InvT-loop
+Inv-loop p pairs i₀ i = Sought false (apartFromNext p) pairs i
+
+abbrev μ-loop : tie.MeasureT-loop
+μ-loop p pairs i₀ i = pairs - i
+
+-- rule 2 keeps the difference from falling below 0
+rises : (c : tie.After-t Inv-loop μ-loop) → let p = c .before .before .before .before .args .t1 in let i = c .before .before .before .loop .i in
+    thresholdAt p i < thresholdAt p (suc i)
+rises c =
+    let a = c .before .before .before .before in
+    let i = c .before .before .before .loop .i in
+    rule2-says (a .args .t1) .0 (a .pre .1) (suc i) (omega (arith, c .before .before .loop-test .taken)) .1
+
+cast-pairs : tie.Need-cast-pairs Inv-loop μ-loop
+cast-pairs c = search needs
+
+sub-pairs : tie.Need-sub-pairs Inv-loop μ-loop
+sub-pairs c = search needs
+
+loop-holds : tie.Need-loop-holds Inv-loop μ-loop
+loop-holds c = sought-none false _
+
+mul-before : tie.Need-mul-before Inv-loop μ-loop
+mul-before c = search needs
+
+element-copy-out-before : tie.Need-element-copy-out-before Inv-loop μ-loop
+element-copy-out-before c = search needs
+
+add-t : tie.Need-add-t Inv-loop μ-loop
+add-t c = search needs
+
+mul-t : tie.Need-mul-t Inv-loop μ-loop
+mul-t c = search needs
+
+element-copy-out-t : tie.Need-element-copy-out-t Inv-loop μ-loop
+element-copy-out-t c = search needs
+
+sub-if1 : tie.Need-sub-if1 Inv-loop μ-loop
+sub-if1 c = rw (add-one (c .before .before .before .loop .i)) (omega (arith, rises c))
+
+returns : tie.Need-returns Inv-loop μ-loop
+unfolding rule14
+returns c =
+    let l = c .before .before .before .before .loop in
+    sought-here false _ (l .inv) (c .before .before .before .loop-test .taken)
+    (le?-fails _ _ (omega (arith, rises (c .before), rw (add-one (l .i)) at (c .if1 .taken))))
+
+add-i : tie.Need-add-i Inv-loop μ-loop
+add-i c = search needs
+
+loop-less : tie.Need-loop-less Inv-loop μ-loop
+loop-less c = search needs
+
+loop-again : tie.Need-loop-again Inv-loop μ-loop
+loop-again c =
+    let l = c .before .before .before .before .loop in
+    sought-next false _ (l .inv) (c .before .before .before .loop-test .taken)
+    (le?-complete _ _ (omega (arith, rises (c .before), rw (add-one (l .i)) at (c .if1 .left))))
+
+returns-2 : tie.Need-returns-2 Inv-loop μ-loop
+unfolding rule14
+returns-2 c = sought-nowhere false _ (c .before .loop .inv) (c .loop-test .left)
+
+pub thresholds-apart-spec : {M : Type 1} → statement M
+thresholds-apart-spec =
+    tie.close
+    (tie.spec
+    Inv-loop
+    μ-loop
+    cast-pairs
+    sub-pairs
+    loop-holds
+    mul-before
+    element-copy-out-before
+    add-t
+    mul-t
+    element-copy-out-t
+    sub-if1
+    returns
+    add-i
+    loop-less
+    loop-again
+    returns-2)
