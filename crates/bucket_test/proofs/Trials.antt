@@ -6,7 +6,7 @@ use Rattle.walk.specs.Spending.{spending}
 use Rattle.walk.specs.Mass.{rounds, roundUp, reaching, massUp}
 use Rattle.walk.specs.Walk.{below, lower, massFrom, massBelow, upperBoundary, firstLive, start, absorbed, stepWalk, walk}
 use Rattle.plan.specs.Places.{eq?, allTo, anyTo, largestTo, smallestTo}
-use Rattle.plan.specs.Plan.{countsFit, spendingOf, rule1, aboveBefore, rule2, rule14, rule3, rule4, permitted, bucketFits, rule5, coveredAbove, rule6, planRefusal}
+use Rattle.plan.specs.Plan.{countsFit, spendingOf, rule1, aboveBefore, rule2, rule3, rule4, permitted, bucketFits, rule5, coveredAbove, rule6, planRefusal}
 use Rattle.bucket_test.specs.Turn.{startRecord}
 use Rattle.bucket_test.specs.Answers.{lowOf, highOf, answerBy, answerOf}
 use Rattle.plan.specs.PlanF.{planF}
@@ -15,5 +15,5 @@ use Rattle.bucket_test.specs.Trials.{computed, printed, TrialsTheorem}
 pub trials : TrialsTheorem
 unfolding computed printed planF spendingOf spending walk start stepWalk absorbed upperBoundary firstLive massFrom massBelow searchUp searchDown
     lower below massUp reaching roundUp rounds million M massLimit allowanceLimit horizonLimit le? eq? allTo anyTo largestTo smallestTo
-    countsFit rule1 aboveBefore rule2 rule14 rule3 rule4 permitted bucketFits rule5 coveredAbove rule6 planRefusal lowOf highOf answerBy answerOf startRecord
+    countsFit rule1 aboveBefore rule2 rule3 rule4 permitted bucketFits rule5 coveredAbove rule6 planRefusal lowOf highOf answerBy answerOf startRecord
 trials = (refl, refl)

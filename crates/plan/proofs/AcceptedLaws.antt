@@ -47,7 +47,6 @@ module _ (p : Plan) where
   rule2-says = all-say _ (λ i. both (within-reads 1 thresholdLimit (thresholdAt p i)) (above-says i)) (p .count)
 
   pub rule14-says : (rule14 p ≡ true) ↔ Apart p
-  unfolding rule14
   rule14-says =
       let pairs = all-say _ (λ i. le-reads _ (thresholdAt p (suc i))) (p .count - 1) in
       (λ e i l. pairs .0 e i (omega arith), λ a. pairs .1 (λ i l. a i (omega arith)))

@@ -52,7 +52,6 @@ module _ (p : Plan) (thresholds allowances left right : List ℕ)
   rule2-same = all-cong (p .count) _ _ (λ i l. rw (entries i l .0, before-same i l))
 
   rule14-same : rule14 q ≡ rule14 p
-  unfolding rule14
   rule14-same = all-cong (p .count - 1) _ _ (λ i l. rw (entries i (omega arith) .0, entries (suc i) (omega arith) .0))
 
   rule3-same : rule3 q ≡ rule3 p

@@ -3,10 +3,10 @@ use mathlib.Core.Path.{refl}
 use Rattle.walk.specs.Numbers.{le?}
 use Rattle.walk.specs.Units.{million, allowanceLimit, horizonLimit}
 use Rattle.plan.specs.Places.{eq?, allTo, anyTo}
-use Rattle.plan.specs.Plan.{countsFit, rule1, aboveBefore, rule2, rule14, rule3, rule4, permitted, bucketFits, rule5, coveredAbove, rule6, planRefusal}
+use Rattle.plan.specs.Plan.{countsFit, rule1, aboveBefore, rule2, rule3, rule4, permitted, bucketFits, rule5, coveredAbove, rule6, planRefusal}
 use Rattle.plan.specs.Trials.{computed, printed, TrialsTheorem}
 
 pub trials : TrialsTheorem
-unfolding computed printed le? million allowanceLimit horizonLimit eq? allTo anyTo countsFit rule1 aboveBefore rule2 rule14 rule3 rule4
+unfolding computed printed le? million allowanceLimit horizonLimit eq? allTo anyTo countsFit rule1 aboveBefore rule2 rule3 rule4
     permitted bucketFits rule5 coveredAbove rule6 planRefusal
 trials = (refl, λ p e. rw e)

@@ -68,7 +68,7 @@ module _ (p : Plan) where
   abbrev pub apartFromNext : ℕ → Bool
   apartFromNext i = le? (thresholdAt i + leastDifference) (thresholdAt (suc i))
 
-  unfoldable pub rule14 : Bool
+  abbrev pub rule14 : Bool
   rule14 = allTo (p .count - 1) apartFromNext
 
   -- 3: each allowance in its range

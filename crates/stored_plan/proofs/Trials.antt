@@ -3,7 +3,7 @@ use mathlib.Core.Path.{refl}
 use Rattle.walk.specs.Numbers.{le?}
 use Rattle.walk.specs.Units.{million, allowanceLimit, horizonLimit}
 use Rattle.plan.specs.Places.{eq?, allTo, anyTo, overTo, joinTo}
-use Rattle.plan.specs.Plan.{countsFit, rule1, aboveBefore, rule2, rule14, rule3, rule4, permitted, bucketFits, rule5, coveredAbove, rule6, planRefusal}
+use Rattle.plan.specs.Plan.{countsFit, rule1, aboveBefore, rule2, rule3, rule4, permitted, bucketFits, rule5, coveredAbove, rule6, planRefusal}
 use Rattle.plan.specs.PlanF.{planF}
 use Rattle.stored_plan.specs.Little.{toLE, fromLE, field}
 use Rattle.stored_plan.specs.Form.{bucketOffset, formSize, header, thresholdEntries, bucketEntries, encoded}
@@ -14,6 +14,6 @@ use Rattle.stored_plan.specs.Trials.{planFBytes, damaged, damages, Trial
 pub trials : TrialsTheorem
 unfolding planF planFBytes encoded header thresholdEntries bucketEntries bucketOffset formSize toLE fromLE field joinTo overTo
     filled countIn bucketsIn planIn offsetsFit lengthFits formRefusal readRefusal decoded million allowanceLimit horizonLimit le?
-    eq? allTo anyTo countsFit rule1 aboveBefore rule2 rule14 rule3 rule4 permitted bucketFits rule5 coveredAbove rule6 planRefusal damaged damages
+    eq? allTo anyTo countsFit rule1 aboveBefore rule2 rule3 rule4 permitted bucketFits rule5 coveredAbove rule6 planRefusal damaged damages
     noPlan writeRefusal written bytesAfter
 trials = (refl, refl, refl, refl, refl, refl, refl, refl, refl, refl, refl, refl)

@@ -5,7 +5,7 @@ use native.Mathlib.Numerals.{add-one}
 use native.Mathlib.Omega.{arith}
 use borrow.Author.Needs.{needs}
 use Rattle.walk.proofs.Tests.{le?-complete, le?-fails}
-use Rattle.plan.specs.Plan.{thresholdAt, apartFromNext, rule14}
+use Rattle.plan.specs.Plan.{thresholdAt, apartFromNext}
 use Rattle.plan.proofs.PlaceLaws.{Sought, sought-none, sought-next, sought-here, sought-nowhere}
 use Rattle.plan.proofs.AcceptedLaws.{rule2-says}
 use Rattle.plan.proofs.rules.thresholds_apart.Statement.{statement}
@@ -53,7 +53,6 @@ sub-if1 : tie.Need-sub-if1 Inv-loop μ-loop
 sub-if1 c = rw (add-one (c .before .before .before .loop .i)) (omega (arith, rises c))
 
 returns : tie.Need-returns Inv-loop μ-loop
-unfolding rule14
 returns c =
     let l = c .before .before .before .before .loop in
     sought-here false _ (l .inv) (c .before .before .before .loop-test .taken)
@@ -72,7 +71,6 @@ loop-again c =
     (le?-complete _ _ (omega (arith, rises (c .before), rw (add-one (l .i)) at (c .if1 .left))))
 
 returns-2 : tie.Need-returns-2 Inv-loop μ-loop
-unfolding rule14
 returns-2 c = sought-nowhere false _ (c .before .loop .inv) (c .loop-test .left)
 
 pub thresholds-apart-spec : {M : Type 1} → statement M
