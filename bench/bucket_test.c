@@ -67,6 +67,8 @@ static uint32_t plan_refusal(const struct plan *p) {
     if (p->count < 1 || p->count > 10 || p->buckets < 2 || p->buckets > 16) return 1;
     for (uint32_t i = 0, before = 0; i < p->count; before = p->threshold[i++])
         if (p->threshold[i] <= before || p->threshold[i] >= MILLION) return 2;
+    for (uint32_t i = 1; i < p->count; i++)
+        if (p->threshold[i] - p->threshold[i - 1] < 100) return 14;
     for (uint32_t i = 0; i < p->count; i++)
         if (p->allowance[i] < 1 || p->allowance[i] >= WHOLE / 2) return 3;
     if (p->delay < 1 || p->delay > 65535 || p->horizon < 1 || p->horizon > 50000) return 4;

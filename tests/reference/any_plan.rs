@@ -1,26 +1,50 @@
 //! Random plans that keep the rules.
 
 use crate::draft::{two_buckets, Draft};
-use crate::plan::LARGEST_ALLOWANCE;
+use crate::plan::{LARGEST_ALLOWANCE, LEAST_APART};
 use crate::rng::Rng;
+
+/// As close as the rules permit, or nearly: all differences the same, or some a little larger.
+fn close_together(rng: &mut Rng, count: usize) -> Vec<u32> {
+    let least = LEAST_APART as u64;
+    let step = rng.pick(&[least, least, least + 1]);
+    let even = rng.chance(2, 3);
+    let mut steps = vec![0];
+    for _ in 1..count {
+        let more = rng.range(step, step + 60);
+        steps.push(if even { step } else { rng.pick(&[step, step, step + 1, more]) });
+    }
+    let last = 999_999 - steps.iter().sum::<u64>();
+    let any = rng.range(1, last);
+    let mut at = rng.pick(&[1, last, any, any]);
+    let rise = |step: &u64| {
+        at += step;
+        at as u32
+    };
+    steps.iter().map(rise).collect()
+}
 
 fn thresholds(rng: &mut Rng, count: usize) -> Vec<u32> {
     let style = rng.below(6);
-    let centre = rng.range(1, 999_999);
+    if style == 4 {
+        return close_together(rng, count);
+    }
     let mut out: Vec<u32> = Vec::new();
+    let fits = |at: u32, out: &[u32]| at <= 999_999 && out.iter().all(|other| at.abs_diff(*other) >= LEAST_APART);
     while out.len() < count {
         let at = match style {
+            // Just above another.
+            _ if !out.is_empty() && rng.chance(1, 12) => (rng.pick(&out) + LEAST_APART) as u64 + rng.below(2),
             0 | 1 => rng.range(1, 999_999),
             2 => rng.scale(1, 999_999),
             3 => 1_000_000 - rng.scale(1, 999_999),
-            4 => (centre + rng.below(60)).clamp(1, 999_999),
-            _ => rng.pick(&[1, 2, 500, 1000, 10_000, 50_000, 100_000, 400_000, 500_000, 900_000, 999_998, 999_999]),
+            _ => rng.pick(&[1, 101, 500, 1000, 10_000, 50_000, 100_000, 400_000, 500_000, 900_000, 999_899, 999_999]),
         };
-        if !out.contains(&(at as u32)) {
+        if fits(at as u32, &out) {
             out.push(at as u32);
         } else if rng.chance(1, 4) {
             let other = rng.range(1, 999_999) as u32;
-            if !out.contains(&other) {
+            if fits(other, &out) {
                 out.push(other);
             }
         }
@@ -86,6 +110,11 @@ pub fn any_horizon(rng: &mut Rng) -> u32 {
 
 pub fn any_plan(rng: &mut Rng, least_allowance: u64, horizon: u32) -> Draft {
     let k = rng.range(1, 10) as usize;
+    plan_of_size(rng, k, least_allowance, horizon)
+}
+
+/// With so many thresholds.
+pub fn plan_of_size(rng: &mut Rng, k: usize, least_allowance: u64, horizon: u32) -> Draft {
     let b = rng.range(2, 16) as usize;
     let mut draft = Draft {
         thresholds: Vec::new(),

@@ -33,7 +33,7 @@ fn run_at(place: u64, seed: u64, examples: &[Example]) -> Option<Run> {
         ("random", format!("{} (random {place})", case.kind), case, None)
     } else if place < damaged_from {
         let e = &examples[(place - RANDOM_RUNS) as usize];
-        ("example", e.name.to_string(), e.case.clone(), Some(e.line.to_string()))
+        ("example", e.name.clone(), e.case.clone(), Some(e.line.clone()))
     } else if place < damaged_from + DAMAGED_RUNS {
         let which = place - damaged_from;
         let case = damaged_case(seed, which);

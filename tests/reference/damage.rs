@@ -1,7 +1,8 @@
 //! Ways to damage a plan, its stored form and an input.
 
+use crate::any_plan::{any_horizon, plan_of_size};
 use crate::draft::Draft;
-use crate::plan::LARGEST_ALLOWANCE;
+use crate::plan::{LARGEST_ALLOWANCE, LEAST_APART};
 use crate::rng::Rng;
 
 fn put(bytes: &mut [u8], from: usize, size: usize, value: u64) {
@@ -43,6 +44,41 @@ pub fn threshold(rng: &mut Rng, draft: &mut Draft) {
     let before = if i > 0 { draft.thresholds[i - 1].0 as u64 } else { 1 };
     let after = draft.thresholds.get(i + 1).map_or(999_999, |t| t.0 as u64);
     draft.thresholds[i].0 = odd_number(rng, 4, &[1, 999_999, 1_000_000, before, after]) as u32;
+}
+
+/// One of two neighbours moved to about the least difference from the other; most times the buckets' ends go with it.
+pub fn close(rng: &mut Rng, draft: &mut Draft) {
+    let Some(last) = draft.thresholds.len().checked_sub(2) else { return };
+    let any = rng.below(last as u64 + 1) as usize;
+    let pair = rng.pick(&[last, any, any, any, any, any]);
+    let apart = rng.pick(&[0, 1, 98, 99, 99, 99, 99, 100, 100, 101]);
+    let (below, above) = (draft.thresholds[pair].0, draft.thresholds[pair + 1].0);
+    let (place, to) = match rng.chance(1, 2) {
+        true => (pair, above.wrapping_sub(apart)),
+        false => (pair + 1, below.wrapping_add(apart)),
+    };
+    let from = std::mem::replace(&mut draft.thresholds[place].0, to);
+    if rng.chance(7, 8) {
+        let ends = draft.buckets.iter_mut().flat_map(|(left, right)| [left, right]);
+        ends.filter(|end| **end == from).for_each(|end| *end = to);
+    }
+}
+
+/// Close thresholds, alone or with other damage.
+pub fn close_draft(rng: &mut Rng) -> Draft {
+    let any = rng.range(1, 10) as usize;
+    let k = rng.pick(&[2, 10, 10, any]);
+    let horizon = any_horizon(rng);
+    let mut draft = plan_of_size(rng, k, 1, horizon);
+    for _ in 0..rng.pick(&[1, 1, 2]) {
+        close(rng, &mut draft);
+    }
+    for _ in 0..rng.pick(&[0, 0, 1, 1, 2]) {
+        // Twice what seldom breaks its rule.
+        let more = rng.pick(&[threshold, order, allowance, delay_or_horizon, bucket, cover, cover]);
+        more(rng, &mut draft);
+    }
+    draft
 }
 
 pub fn allowance(rng: &mut Rng, draft: &mut Draft) {
@@ -100,8 +136,9 @@ pub fn counts(rng: &mut Rng, draft: &mut Draft) {
         0 => draft.thresholds.clear(),
         1 => {
             let mut at = draft.thresholds.last().map_or(1, |t| t.0);
+            let step = rng.pick(&[1, LEAST_APART]);
             while draft.thresholds.len() < 11 {
-                at += 1;
+                at += step;
                 draft.thresholds.push((at, 7));
             }
         }

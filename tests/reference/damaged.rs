@@ -7,7 +7,7 @@ use crate::draft::{plan_f, Draft};
 use crate::draws::{near, render};
 use crate::rng::Rng;
 
-pub const DAMAGED_RUNS: u64 = 21_000;
+pub const DAMAGED_RUNS: u64 = 25_300;
 
 /// A plan that ends soon on most inputs.
 fn small_plan(rng: &mut Rng) -> Draft {
@@ -22,12 +22,13 @@ fn small_plan(rng: &mut Rng) -> Draft {
 /// Several at once, to see which refusal comes first.
 fn several(rng: &mut Rng, mut draft: Draft, input: &mut Vec<u8>) -> PlanFile {
     for _ in 0..rng.range(2, 4) {
-        match rng.below(6) {
+        match rng.below(7) {
             0 => damage::threshold(rng, &mut draft),
             1 => damage::allowance(rng, &mut draft),
             2 => draft.delay = damage::odd_number(rng, 4, &[0, 65_536]) as u32,
             3 => draft.horizon = damage::odd_number(rng, 4, &[0, 50_001]) as u32,
             4 => damage::bucket(rng, &mut draft),
+            5 => damage::close(rng, &mut draft),
             _ => damage::cover(rng, &mut draft),
         }
     }
@@ -40,6 +41,19 @@ fn several(rng: &mut Rng, mut draft: Draft, input: &mut Vec<u8>) -> PlanFile {
     }
     if rng.chance(1, 4) {
         damage::input(rng, input);
+    }
+    PlanFile::Stored(bytes)
+}
+
+/// Close thresholds; at times the form or the input is damaged too.
+fn close(rng: &mut Rng, _: Draft, input: &mut Vec<u8>) -> PlanFile {
+    let mut bytes = damage::close_draft(rng).store();
+    match rng.below(16) {
+        0 => damage::header(rng, &mut bytes),
+        1 => damage::truncate(rng, &mut bytes),
+        2 => damage::extend(rng, &mut bytes),
+        3 => damage::input(rng, input),
+        _ => {}
     }
     PlanFile::Stored(bytes)
 }
@@ -98,7 +112,7 @@ enum Damage {
 }
 
 /// By turns: what stands here twice comes up twice as often.
-const DAMAGES: [(&str, Damage); 19] = [
+const DAMAGES: [(&str, Damage); 23] = [
     ("header", Damage::Stored(damage::header)),
     ("header", Damage::Stored(damage::header)),
     ("counts", Damage::Draft(damage::counts)),
@@ -112,6 +126,10 @@ const DAMAGES: [(&str, Damage); 19] = [
     ("bit flips", Damage::Stored(damage::flip_bits)),
     ("bit flips", Damage::Stored(damage::flip_bits)),
     ("order", Damage::Draft(damage::order)),
+    ("close", Damage::Both(close)),
+    ("close", Damage::Both(close)),
+    ("close", Damage::Both(close)),
+    ("close", Damage::Both(close)),
     ("several", Damage::Both(several)),
     ("foreign input", Damage::Input(damage::input)),
     ("foreign input", Damage::Both(input_of_plan_f)),

@@ -5,9 +5,9 @@ use crate::case::{Case, Feed, PlanFile};
 use crate::draft::{plan_f, two_buckets, Draft};
 
 pub struct Example {
-    pub name: &'static str,
+    pub name: String,
     pub case: Case,
-    pub line: &'static str,
+    pub line: String,
 }
 
 /// Four thresholds: the inner two can settle either way, the outer two never.
@@ -25,11 +25,11 @@ pub fn crossing_plan() -> Draft {
     }
 }
 
-/// As many thresholds and buckets as a plan may have: 264 bytes.
+/// As many thresholds and buckets as a plan may have, 264 bytes; the thresholds as close as they may be.
 pub fn largest_plan() -> Draft {
     Draft {
-        thresholds: (1..=10).map(|i| (i, 1)).collect(),
-        buckets: (0..16).map(|i| if i % 2 == 0 { (0, 5) } else { (5, 1_000_000) }).collect(),
+        thresholds: (1..=10).map(|i| (100 * i, 1)).collect(),
+        buckets: (0..16).map(|i| if i % 2 == 0 { (0, 500) } else { (500, 1_000_000) }).collect(),
         ..plan_f()
     }
 }
@@ -61,8 +61,12 @@ fn f_to_172() -> PlanFile {
     PlanFile::of(&Draft { horizon: 172, ..plan_f() })
 }
 
-fn a_byte_too_long() -> PlanFile {
-    PlanFile::Stored([largest_plan().store(), vec![0]].concat())
+fn with_a_byte_more(draft: &Draft) -> PlanFile {
+    PlanFile::Stored([draft.store(), vec![0]].concat())
+}
+
+fn close_with_a_byte_more() -> PlanFile {
+    with_a_byte_more(&with_thresholds(&[50_000, 50_099], 1))
 }
 
 fn crossing() -> PlanFile {
@@ -86,7 +90,7 @@ const TURN_ABOUT: [u8; 800] = zeros_then(0, b"10");
 /// Its name, the plan, the input, how that is fed, and the line.
 type Row = (&'static str, fn() -> PlanFile, &'static [u8], Feed, &'static str);
 
-const ROWS: [Row; 40] = [
+const ROWS: [Row; 41] = [
     ("plan F, 11111", f, b"11111", Whole, "decided 2 5 5 50000 1000000\n"),
     ("plan F, 11111 and a newline", f, b"11111\n", Whole, "decided 2 5 5 50000 1000000\n"),
     ("plan F, newlines between", f, b"\n1\n\n1\n1\n1\n1", Whole, "decided 2 5 5 50000 1000000\n"),
@@ -118,7 +122,8 @@ const ROWS: [Row; 40] = [
     ("missing plan, draw 2", || PlanFile::Missing, b"2", Whole, "refused 7\n"),
     ("unreadable plan", || PlanFile::Folder, b"11111", Whole, "refused 7\n"),
     ("a plan of 264 bytes", || PlanFile::of(&largest_plan()), b"", Whole, "open 0 0 0 0 1000000\n"),
-    ("the same with a byte more", a_byte_too_long, b"", Whole, "refused 7\n"),
+    ("the same with a byte more", || with_a_byte_more(&largest_plan()), b"", Whole, "refused 7\n"),
+    ("thresholds 99 apart, a byte more", close_with_a_byte_more, b"", Whole, "refused 7\n"),
     ("allowance of one half (P9)", || PlanFile::of(&half_allowance_plan()), b"11111", Whole, "refused 3\n"),
     ("a gap between buckets (P10)", || PlanFile::of(&gap_plan()), b"11111", Whole, "refused 6\n"),
     ("10,000 above, 50,000 open (P7)", crossing, b"11", Whole, "open 0 2 2 10000 1000000\n"),
@@ -129,11 +134,55 @@ const ROWS: [Row; 40] = [
     ("spent before wide", || PlanFile::of(&widening_plan(767)), &TURN_ABOUT, Whole, "spent 0 767 384 0 1000000\n"),
 ];
 
+/// Plan F with other thresholds, one allowance for all.
+pub fn with_thresholds(thresholds: &[u32], allowance: u64) -> Draft {
+    let buckets = two_buckets(thresholds[0]);
+    Draft { thresholds: thresholds.iter().map(|at| (*at, allowance)).collect(), buckets, ..plan_f() }
+}
+
+/// Thresholds about as close as the rules permit, their allowance, and what refuses plan F with them, 0 for nothing.
+pub const CLOSE: [(&[u32], u64, u32); 22] = [
+    (&[50_000, 50_099], 1, 14),
+    (&[50_000, 50_100], 1, 0),
+    (&[50_000, 50_101], 1, 0),
+    (&[50_000, 49_000], 1, 2),
+    (&[50_000, 49_950], 1, 2),
+    (&[50_000, 50_000], 1, 2),
+    (&[50_000, 50_099], 0, 14),
+    (&[50_000, 50_100], 0, 3),
+    (&[50_000, 49_950], 0, 2),
+    (&[10_000, 10_050, 10_040], 1, 2),
+    (&[10_000, 10_050, 1_000_000], 1, 2),
+    (&[0, 50], 1, 2),
+    (&[10_000, 10_100, 10_199], 1, 14),
+    (&[10_000, 10_099, 10_199], 1, 14),
+    (&[1], 1, 0),
+    (&[999_999], 1, 0),
+    (&[1, 999_999], 1, 0),
+    (&[1, 100], 1, 14),
+    (&[1, 101], 1, 0),
+    (&[999_900, 999_999], 1, 14),
+    (&[999_899, 999_999], 1, 0),
+    (&[100, 200, 300, 400, 500, 600, 700, 800, 900, 999], 1, 14),
+];
+
+fn close_example((thresholds, allowance, number): (&[u32], u64, u32)) -> Example {
+    let plan = PlanFile::of(&with_thresholds(thresholds, allowance));
+    Example {
+        name: format!("thresholds {thresholds:?}, allowance {allowance}"),
+        case: Case { kind: "example", plan, input: Vec::new(), feed: Whole },
+        line: match number {
+            0 => "open 0 0 0 0 1000000\n".into(),
+            number => format!("refused {number}\n"),
+        },
+    }
+}
+
 pub fn all() -> Vec<Example> {
     let example = |(name, plan, input, feed, line): Row| Example {
-        name,
+        name: name.into(),
         case: Case { kind: "example", plan: plan(), input: input.to_vec(), feed },
-        line,
+        line: line.into(),
     };
-    ROWS.into_iter().map(example).collect()
+    ROWS.into_iter().map(example).chain(CLOSE.into_iter().map(close_example)).collect()
 }

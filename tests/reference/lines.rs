@@ -1,6 +1,7 @@
 //! The program's lines: what each run must print, what came up, and what differs.
 
 use crate::case::{Case, PlanFile};
+use crate::plan::{read, Plan};
 use crate::tally::{join, named, sized, Counts};
 use std::fs;
 use std::path::Path;
@@ -9,10 +10,20 @@ use std::path::Path;
 const LONG: u64 = 1000;
 const LONG_NEEDED: u64 = 300;
 
+/// Accepted plans with thresholds about as close as the rules permit, and how many of the random plans must be so.
+const CLOSE: [(&str, u64, fn(&Plan) -> bool); 3] = [
+    ("the closest 100 apart", 500, |p| p.closest() == Some(100)),
+    ("the closest 101 apart", 300, |p| p.closest() == Some(101)),
+    ("ten, each 100 apart", 15, |p| p.thresholds.len() == 10 && p.thresholds[9].at - p.thresholds[0].at == 900),
+];
+
+/// Runs that must print each refusal.
+const REFUSED_NEEDED: u64 = 100;
+
 /// All that the program can print first.
-const REACHABLE: [&str; 13] = [
+const REACHABLE: [&str; 14] = [
     "open", "decided", "crossed", "wide", "spent", "refused 1", "refused 2", "refused 3", "refused 4",
-    "refused 5", "refused 6", "refused 7", "refused 9",
+    "refused 5", "refused 6", "refused 7", "refused 9", "refused 14",
 ];
 
 pub fn kind_of_line(line: &str) -> String {
@@ -44,6 +55,7 @@ pub struct Tally {
     pub kinds: Counts<&'static str>,
     pub thresholds: Counts<u64>,
     pub buckets: Counts<u64>,
+    pub close: Counts<&'static str>,
     pub random: u64,
     pub damaged: u64,
     pub examples: u64,
@@ -60,6 +72,7 @@ impl Tally {
         join(&mut self.kinds, other.kinds);
         join(&mut self.thresholds, other.thresholds);
         join(&mut self.buckets, other.buckets);
+        join(&mut self.close, other.close);
         self.random += other.random;
         self.damaged += other.damaged;
         self.examples += other.examples;
@@ -88,6 +101,10 @@ impl Tally {
                 if let Some(bytes) = case.plan.bytes() {
                     *self.thresholds.entry(bytes[0] as u64).or_default() += 1;
                     *self.buckets.entry(bytes[2] as u64).or_default() += 1;
+                    let plan = read(bytes).expect("a plan that keeps the rules");
+                    for (name, _, _) in CLOSE.iter().filter(|(_, _, is)| is(&plan)) {
+                        *self.close.entry(name).or_default() += 1;
+                    }
                 }
             }
             "damaged" => self.damaged += 1,
@@ -110,13 +127,15 @@ impl Tally {
         }
         println!("random plans by thresholds: {}", sized(&self.thresholds));
         println!("random plans by buckets: {}", sized(&self.buckets));
+        println!("random plans with close thresholds: {}", named(&self.close));
         println!("by kind: {}", named(&self.kinds));
     }
 
     /// What the set of runs failed to reach.
     fn missing(&self) -> Vec<String> {
-        let mut out: Vec<String> =
-            REACHABLE.iter().filter(|kind| self.total(kind) == 0).map(|kind| format!("no run printed '{kind}'")).collect();
+        let needed = |kind: &str| if kind.starts_with("refused") { REFUSED_NEEDED } else { 1 };
+        let seldom = REACHABLE.iter().filter(|kind| self.total(kind) < needed(kind));
+        let mut out: Vec<String> = seldom.map(|kind| format!("never or seldom printed: '{kind}'")).collect();
         if self.random < 5000 || self.damaged < 20_000 {
             out.push("too few runs".into());
         }
@@ -126,6 +145,8 @@ impl Tally {
         if (1..=10).any(|k| !self.thresholds.contains_key(&k)) || (2..=16).any(|b| !self.buckets.contains_key(&b)) {
             out.push("a size of plan never came up".into());
         }
+        let seldom = CLOSE.iter().filter(|(name, needed, _)| self.close.get(name).copied().unwrap_or(0) < *needed);
+        out.extend(seldom.map(|(name, _, _)| format!("few random plans with thresholds: {name}")));
         out
     }
 

@@ -4,6 +4,7 @@ mod any_plan;
 mod big;
 mod boundary;
 mod case;
+mod close;
 mod compare;
 mod counting;
 mod damage;
@@ -16,6 +17,7 @@ mod expectation;
 mod gandy;
 mod host;
 mod judge;
+mod lapses;
 mod limits;
 mod lines;
 mod met;
@@ -40,6 +42,7 @@ use std::process::exit;
 
 const USAGE: &str = "usage: reference COMMAND
   check [--seed N]      the reference against the rules' examples, no program
+  close [--seed N]      the library's entries on plans with thresholds about as close as the rules permit
   compare --program PATH [--seed N] [--keep DIR]
                         the program against the reference
   counting [--seed N]   the library's runs that count to a p-value, and their shares over all orders
@@ -86,6 +89,7 @@ fn main() {
     };
     let good = match command.as_str() {
         "check" => selfcheck::run(seed()),
+        "close" => close::run(seed()),
         "compare" => compare_program(words),
         "counting" => counting::run(seed()),
         "gandy" => gandy::run(seed()),

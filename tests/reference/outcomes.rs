@@ -126,13 +126,19 @@ pub fn name(fault: Fault) -> String {
 /// The outcomes that must come up, by entry.
 const EXPECTED: [(&str, &str); 7] = [
     ("carried draw", "open decided crossed wide spent"),
-    ("spoiled draw", "open decided crossed wide spent 1 2 3 4 5 6 8 9 10 11"),
-    ("begin", "open 1 2 3 4 5 6 8"),
-    ("report_on", "open decided crossed wide spent 1 2 3 4 5 6"),
-    ("plan_refusal", "done 1 2 3 4 5 6"),
-    ("write_plan", "done 1 2 3 4 5 6 12"),
-    ("read_plan", "done 1 2 3 4 5 6 7"),
+    ("spoiled draw", "open decided crossed wide spent 1 2 3 4 5 6 8 9 10 11 14"),
+    ("begin", "open 1 2 3 4 5 6 8 14"),
+    ("report_on", "open decided crossed wide spent 1 2 3 4 5 6 14"),
+    ("plan_refusal", "done 1 2 3 4 5 6 14"),
+    ("write_plan", "done 1 2 3 4 5 6 12 14"),
+    ("read_plan", "done 1 2 3 4 5 6 7 14"),
 ];
+
+/// A refusal must come up often, an answer at all.
+fn needed(kind: &str) -> u64 {
+    if kind.parse::<u32>().is_ok() { 40 } else { 1 }
+}
+
 const LEFT_OVER: [&str; 3] = ["behind the live words", "settled words", "records past K"];
 const OVER_GARBAGE: &str = "taken over garbage";
 
@@ -162,8 +168,8 @@ impl Tally {
     pub fn missing(&self) -> Vec<String> {
         let mut out = Vec::new();
         for (group, kinds) in EXPECTED {
-            let never = kinds.split(' ').filter(|kind| self.of(group, kind) == 0);
-            out.extend(never.map(|kind| format!("no {group}: {kind}")));
+            let seldom = kinds.split(' ').filter(|kind| self.of(group, kind) < needed(kind));
+            out.extend(seldom.map(|kind| format!("never or seldom, {group}: {kind}")));
         }
         out.extend(LEFT_OVER.iter().filter(|what| self.of(OVER_GARBAGE, what) == 0).map(|what| format!("never {what}")));
         for (clause, [taken, ended, past, alone]) in self.clauses.into_iter().enumerate() {

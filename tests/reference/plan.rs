@@ -4,6 +4,10 @@
 pub const WHOLE: u128 = 4_398_046_511_104;
 pub const MILLION: u128 = 1_000_000;
 pub const LARGEST_ALLOWANCE: u64 = 2_199_023_255_551;
+/// Neighbouring thresholds differ by this or more.
+pub const LEAST_APART: u32 = 100;
+/// The rules' numbers, as they are judged.
+const ORDER: [u8; 7] = [1, 2, 14, 3, 4, 5, 6];
 
 #[derive(Clone, Debug, PartialEq)]
 pub struct Threshold {
@@ -69,6 +73,15 @@ impl Plan {
         range || order
     }
 
+    /// The least difference of neighbouring thresholds.
+    pub fn closest(&self) -> Option<u128> {
+        self.thresholds.windows(2).map(|pair| pair[1].at.abs_diff(pair[0].at)).min()
+    }
+
+    fn thresholds_close(&self) -> bool {
+        self.closest().is_some_and(|difference| difference < LEAST_APART as u128)
+    }
+
     fn allowance_bad(&self) -> bool {
         self.thresholds.iter().any(|t| t.allowance < 1 || t.allowance > LARGEST_ALLOWANCE as u128)
     }
@@ -103,23 +116,22 @@ impl Plan {
         points.iter().any(|p| !self.buckets.iter().any(|b| b.holds(*p)))
     }
 
-    /// The first refusal, 1 to 6, each over all entries before the next.
-    pub fn refusal(&self) -> Option<u8> {
-        if self.counts_bad() {
-            Some(1)
-        } else if self.threshold_bad() {
-            Some(2)
-        } else if self.allowance_bad() {
-            Some(3)
-        } else if self.delay_or_horizon_bad() {
-            Some(4)
-        } else if self.bucket_bad() {
-            Some(5)
-        } else if self.p_uncovered() {
-            Some(6)
-        } else {
-            None
+    pub fn breaks(&self, rule: u8) -> bool {
+        match rule {
+            1 => self.counts_bad(),
+            2 => self.threshold_bad(),
+            3 => self.allowance_bad(),
+            4 => self.delay_or_horizon_bad(),
+            5 => self.bucket_bad(),
+            6 => self.p_uncovered(),
+            14 => self.thresholds_close(),
+            other => panic!("{other} is no rule"),
         }
+    }
+
+    /// The first refusal, each over all entries before the next.
+    pub fn refusal(&self) -> Option<u8> {
+        ORDER.into_iter().find(|rule| self.breaks(*rule))
     }
 }
 
@@ -128,8 +140,14 @@ fn number(stored: &[u8], from: usize, size: usize) -> u128 {
     (0..size).map(|i| (stored[from + i] as u128) << (8 * i)).sum()
 }
 
-/// Reads a stored plan, or gives the refusal.
-pub fn read(stored: &[u8]) -> Result<Plan, u8> {
+/// The thresholds of a stored plan that has so many.
+pub fn thresholds_in(stored: &[u8], count: usize) -> Vec<Threshold> {
+    let one = |from| Threshold { at: number(stored, from, 4), allowance: number(stored, from + 4, 8) };
+    (0..count).map(|i| one(16 + 12 * i)).collect()
+}
+
+/// The plan that is stored, its rules not yet judged but for the counts; or the refusal.
+pub fn parsed(stored: &[u8]) -> Result<Plan, u8> {
     if stored.len() < 16 {
         return Err(7);
     }
@@ -145,18 +163,20 @@ pub fn read(stored: &[u8]) -> Result<Plan, u8> {
     if stored.len() != buckets_from + 8 * count_buckets {
         return Err(7);
     }
-    let plan = Plan {
-        thresholds: (0..count_thresholds)
-            .map(|i| 16 + 12 * i)
-            .map(|from| Threshold { at: number(stored, from, 4), allowance: number(stored, from + 4, 8) })
-            .collect(),
+    Ok(Plan {
+        thresholds: thresholds_in(stored, count_thresholds),
         buckets: (0..count_buckets)
             .map(|i| buckets_from + 8 * i)
             .map(|from| Bucket { left: number(stored, from, 4), right: number(stored, from + 4, 4) })
             .collect(),
         delay: number(stored, 8, 4),
         horizon: number(stored, 12, 4),
-    };
+    })
+}
+
+/// Reads a stored plan, or gives the refusal.
+pub fn read(stored: &[u8]) -> Result<Plan, u8> {
+    let plan = parsed(stored)?;
     match plan.refusal() {
         Some(refusal) => Err(refusal),
         None => Ok(plan),

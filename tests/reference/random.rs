@@ -4,7 +4,7 @@ use crate::any_plan::{any_horizon, any_plan, buckets};
 use crate::case::{Case, Feed, PlanFile};
 use crate::draft::{star_plan, two_buckets, Draft};
 use crate::draws::{chosen, draws, near, render, steer, Style};
-use crate::plan::LARGEST_ALLOWANCE;
+use crate::plan::{LARGEST_ALLOWANCE, LEAST_APART};
 use crate::rng::Rng;
 use crate::sequential::Mark;
 
@@ -118,13 +118,15 @@ fn wide_run(rng: &mut Rng) -> Case {
 fn crossing_draft(rng: &mut Rng) -> Draft {
     let outer = rng.range(1, 4_000);
     let inner = rng.range(40_000, 600_000);
-    let far = inner + rng.range(1, inner / 3);
+    let least = LEAST_APART as u64;
+    let any = rng.range(least, inner / 3);
+    let far = inner + rng.pick(&[least, least + 1, any, any, any, any]);
     let free = rng.scale(1 << 37, LARGEST_ALLOWANCE);
     let firm = rng.scale(1 << 14, 1 << 30);
     let mut thresholds = vec![(outer as u32, 1), (inner as u32, free), (far as u32, firm)];
     let mut buckets = vec![(0, outer as u32), (outer as u32, 1_000_000)];
     if rng.chance(1, 2) {
-        let more = rng.range(far + 1, 999_999) as u32;
+        let more = rng.range(far + least, 999_999) as u32;
         thresholds.push((more, rng.scale(1, 1 << 20)));
         buckets.push((outer as u32, more));
         buckets.push((inner as u32, more));

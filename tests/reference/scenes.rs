@@ -1,7 +1,8 @@
 //! Good calls of a draw, and ways to spoil them.
 
 use crate::any_plan::{any_horizon, any_plan};
-use crate::host::{plan_of, Plan, Record, State, ABOVE, AT_MOST, OPEN};
+use crate::damage;
+use crate::host::{draft_of, plan_of, Plan, Record, State, ABOVE, AT_MOST, OPEN};
 use crate::judge::{live, spending, PART, WORD_LIMIT};
 use crate::plan::{LARGEST_ALLOWANCE, WHOLE};
 use crate::rng::Rng;
@@ -45,9 +46,11 @@ fn garbage(rng: &mut Rng) -> Record {
     }
 }
 
-fn plan_past_counts(rng: &mut Rng, plan: &mut Plan) {
+/// Anything in the places past the counts; a threshold at times close to the one before.
+pub fn plan_past_counts(rng: &mut Rng, plan: &mut Plan) {
     for i in plan.count as usize..10 {
-        plan.thresholds[i] = rng.next() as u32;
+        let next = plan.thresholds[i - 1].wrapping_add(rng.pick(&[1, 99, 100]));
+        plan.thresholds[i] = if rng.chance(1, 2) { next } else { rng.next() as u32 };
         plan.allowances[i] = rng.next();
     }
     for j in plan.buckets as usize..16 {
@@ -238,11 +241,19 @@ fn spoil_length(rng: &mut Rng, scene: &mut Scene) {
     scene.words.resize(len, more);
 }
 
+fn spoil_apart(rng: &mut Rng, plan: &mut Plan) {
+    if let Some(mut draft) = draft_of(plan) {
+        damage::close(rng, &mut draft);
+        *plan = plan_of(&draft);
+        plan_past_counts(rng, plan);
+    }
+}
+
 fn spoil_plan(rng: &mut Rng, plan: &mut Plan, n: u32) {
     let i = rng.below(10) as usize;
     let j = rng.below(16) as usize;
     let most = LARGEST_ALLOWANCE;
-    match rng.below(9) {
+    match rng.below(12) {
         0 => plan.count = rng.pick(&[0, 1, 10, 11, u32::MAX]),
         1 => plan.buckets = rng.pick(&[1, 2, 16, 17, 0, u32::MAX]),
         2 => plan.thresholds[i] = rng.pick(&[0, 1, 999_999, 1_000_000, u32::MAX, plan.thresholds[9 - i]]),
@@ -251,13 +262,14 @@ fn spoil_plan(rng: &mut Rng, plan: &mut Plan, n: u32) {
         5 => plan.horizon = rng.pick(&[0, 1, 50_000, 50_001, u32::MAX]),
         6 => plan.horizon = rng.pick(&[n, n.wrapping_add(1), n.wrapping_sub(1)]),
         7 => plan.left[j] = rng.pick(&[0, 1, 1_000_000, u32::MAX, plan.right[j], plan.thresholds[i]]),
+        8..=10 => spoil_apart(rng, plan),
         _ => plan.right[j] = rng.pick(&[0, 1_000_000, 1_000_001, u32::MAX, plan.left[j], plan.thresholds[i]]),
     }
 }
 
 pub fn spoil(rng: &mut Rng, scene: &mut Scene) {
     let i = rng.below(scene.k() as u64) as usize;
-    match rng.below(25) {
+    match rng.below(26) {
         0..=2 => spoil_counts(rng, scene, i),
         3..=4 => spoil_mark(rng, scene, i),
         5..=9 => spoil_boundary(rng, scene, i),

@@ -2,10 +2,12 @@
 
 use crate::boundary::{spending, Literal, Quick, Slip, WIDE};
 use crate::case::{Case, Feed};
+use crate::damaged::{damaged_case, DAMAGED_RUNS};
 use crate::draft::{plan_f, star_plan, Draft};
 use crate::examples::{self, gap_plan, half_allowance_plan, largest_plan};
 use crate::host::Record;
 use crate::judge::{self, Fault};
+use crate::lapses::{lapses, Judged, Lapse};
 use crate::lines::kind_of_line;
 use crate::plan::{read, LARGEST_ALLOWANCE, MILLION, WHOLE};
 use crate::random::{random_case, CROSSED_FROM, CROSSED_RUNS};
@@ -105,7 +107,7 @@ fn printed(report: &mut Report) {
         if line != e.line {
             println!("  {}: {line:?} for {:?}", e.name, e.line);
         }
-        report.check(e.name, line == e.line);
+        report.check(&e.name, line == e.line);
     }
 }
 
@@ -195,6 +197,8 @@ fn chances(report: &mut Report, seed: u64) {
 /// Runs in which each known mistake is looked for, and in how many it must change the line.
 const MISTAKEN_RUNS: u64 = 1200;
 const SHOWN: u64 = 100;
+/// The same of mistakes on thresholds too close, in the damaged runs.
+const LAPSE_SHOWN: u64 = 50;
 
 /// Each known mistake must change many lines of the compared runs.
 fn mistakes(report: &mut Report, seed: u64) {
@@ -221,6 +225,27 @@ fn mistakes(report: &mut Report, seed: u64) {
     }
 }
 
+/// Each mistake on thresholds too close must change many refusals of the damaged runs.
+fn lapses_shown(report: &mut Report, seed: u64) {
+    let mut shown: Counts<Lapse> = Counts::new();
+    for place in 0..DAMAGED_RUNS {
+        let case = damaged_case(seed, place);
+        let stored = case.plan.bytes().unwrap_or(&[]);
+        let right = read(stored).err().unwrap_or(0) as u32;
+        let judged = Judged::of(stored);
+        for lapse in [vec![Lapse::None, Lapse::BeforeSeven], lapses()].concat() {
+            *shown.entry(lapse).or_default() += (judged.refusal(lapse) != right) as u64;
+        }
+    }
+    println!("mistakes on thresholds too close shown by {DAMAGED_RUNS} of the runs: {shown:?}");
+    for (lapse, count) in shown {
+        match lapse {
+            Lapse::None => report.check("without a mistake the refusals are the same", count == 0),
+            _ => report.check(&format!("{LAPSE_SHOWN} runs show the mistake {lapse:?}"), count >= LAPSE_SHOWN),
+        }
+    }
+}
+
 /// The recipe for crossing must lead there.
 fn crossings(report: &mut Report, seed: u64) {
     let mut kinds: Counts<String> = Counts::new();
@@ -243,6 +268,7 @@ pub fn run(seed: u64) -> bool {
     chances(&mut report, seed);
     crossings(&mut report, seed);
     mistakes(&mut report, seed);
+    lapses_shown(&mut report, seed);
     println!("check: {} passed, {} failed, {:.1} s", report.passed, report.failed, began.elapsed().as_secs_f64());
     report.failed == 0
 }
