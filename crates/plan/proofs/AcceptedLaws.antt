@@ -1,4 +1,4 @@
--- A plan has no refusal exactly when it keeps the rules in words (rules 1.4), and what an accepted plan gives the walk.
+-- A plan has no refusal exactly when it keeps the rules in words (rules 1.4), and what an accepted plan gives.
 use mathlib.Core.Path.{_≡_, refl}
 use mathlib.Core.Bool.{true}
 use mathlib.Core.List.{List, [], _∷_}
@@ -10,9 +10,9 @@ use Rattle.walk.specs.Units.{million, allowanceLimit, horizonLimit}
 use Rattle.walk.specs.Spending.{IsSpending}
 use Rattle.walk.proofs.SpendingLaws.{spending-is}
 use Rattle.plan.specs.Places.{unless, firstRefusal}
-use Rattle.plan.specs.Plan.{countLimit, bucketLimit, thresholdLimit, leastDifference, delayLimit, countsFit, thresholdAt, allowanceAt, leftAt, rightAt, spendingOf, rule1, aboveBefore, rule2, rule14, rule3, rule4, permitted, bucketFits, rule5, rule6, planRefusal, Apart, Permitted, Covered, Accepted, AcceptedTheorem, ApartTheorem}
+use Rattle.plan.specs.Plan.{countLimit, bucketLimit, thresholdLimit, leastDifference, delayLimit, countsFit, thresholdAt, allowanceAt, leftAt, rightAt, spendingOf, rule1, aboveBefore, rule2, rule14, rule3, rule4, permitted, bucketFits, rule5, rule6, planRefusal, Apart, Permitted, Covered, Accepted, AcceptedTheorem, TooCloseTheorem, ApartTheorem}
 use Rattle.plan.specs.declared.Plan.{Plan}
-use Rattle.plan.proofs.PlaceLaws.{both, either, neither, le-reads, eq-reads, within-reads, all-say, any-say, none-says}
+use Rattle.plan.proofs.PlaceLaws.{both, either, neither, le-reads, eq-reads, within-reads, all-say, any-say, none-says, number-absent, number-here, number-later}
 use Rattle.plan.proofs.Cover.{covers}
 
 -- ---- each rule in words
@@ -148,6 +148,17 @@ module _ (p : Plan) where
 
 pub accepted : AcceptedTheorem
 accepted p = (λ e. gives p (kept p .0 e), λ a. kept p .1 (keeps p a))
+
+pub too-close : TooCloseTheorem
+unfolding planRefusal
+too-close p =
+    number-later (rule1 p) 0 14 (from2 p) (λ e. absurd (omega arith))
+    (number-later (rule2 p) 1 14 (from14 p) (λ e. absurd (omega arith))
+    (number-here (rule14 p) 13 (from3 p) (rule14-says p)
+    (number-absent (rule3 p) 2 14 (from4 p) (λ e. absurd (omega arith))
+    (number-absent (rule4 p) 3 14 (from5 p) (λ e. absurd (omega arith))
+    (number-absent (rule5 p) 4 14 (from6 p) (λ e. absurd (omega arith))
+    (number-absent (rule6 p) 5 14 [] (λ e. absurd (omega arith)) (λ e. absurd (omega arith))))))))
 
 -- ---- what an accepted plan gives
 

@@ -244,3 +244,19 @@ none-says false r rs x y = (λ e. absurd (omega arith), λ h. clash (sym (x .1 (
 
 pub last-says : {A : Type 0} (b : Bool) (r : ℕ) → (b ≡ true) ↔ A → (firstRefusal (unless b (suc r) ∷ []) ≡ 0) ↔ A
 last-says b r x = let s = none-says b r [] x (λ e. e, λ e. e) in (λ e. s .0 e .0, λ a. s .1 (a, refl))
+
+-- it is the number s: by none of the rules with another number; by a rule of that number where it is not kept; past a rule of another where that
+-- one is kept
+pub number-absent : (b : Bool) (r s : ℕ) (rs : List ℕ) → ¬ (suc r ≡ s) → ¬ (firstRefusal rs ≡ s) → ¬ (firstRefusal (unless b (suc r) ∷ rs) ≡ s)
+number-absent true r s rs other rest = rest
+number-absent false r s rs other rest = other
+
+pub number-here : {A : Type 0} (b : Bool) (r : ℕ) (rs : List ℕ) → (b ≡ true) ↔ A → ¬ (firstRefusal rs ≡ suc r)
+    → (firstRefusal (unless b (suc r) ∷ rs) ≡ suc r) ↔ (¬ A)
+number-here true r rs x rest = (λ e. absurd (rest e), λ f. absurd (f (x .0 refl)))
+number-here false r rs x rest = (λ e a. clash (sym (x .1 a)), λ f. refl)
+
+pub number-later : {B : Type 0} (b : Bool) (r s : ℕ) (rs : List ℕ) → ¬ (suc r ≡ s) → (firstRefusal rs ≡ s) ↔ B
+    → (firstRefusal (unless b (suc r) ∷ rs) ≡ s) ↔ ((b ≡ true) × B)
+number-later true r s rs other y = (λ e. (refl, y .0 e), λ h. y .1 (h .1))
+number-later false r s rs other y = (λ e. absurd (other e), λ h. clash (sym (h .0)))

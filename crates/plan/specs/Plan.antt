@@ -64,7 +64,7 @@ module _ (p : Plan) where
   unfoldable pub rule2 : Bool
   rule2 = allTo (p .count) (λ i. within 1 thresholdLimit (thresholdAt i) && aboveBefore i)
 
-  -- 14: every two neighbouring thresholds differ by at least 100 millionths
+  -- 14: every two neighbouring thresholds differ by at least 100 millionths; after 2, which makes the next the larger one
   abbrev pub apartFromNext : ℕ → Bool
   apartFromNext i = le? (thresholdAt i + leastDifference) (thresholdAt (suc i))
 
@@ -107,7 +107,7 @@ module _ (p : Plan) where
 
   -- ---- the rules in words. proofs/AcceptedLaws shows that a plan has no refusal exactly when it keeps them.
 
-  -- every two neighbouring thresholds differ by at least 100 millionths
+  -- every two neighbouring thresholds differ by at least 100 millionths, the next being the larger one
   abbrev pub Apart : Type 0
   Apart = (i : ℕ) → suc i < p .count → thresholdAt i + leastDifference ≤ thresholdAt (suc i)
 
@@ -144,6 +144,11 @@ CoveredTheorem = (p : Plan) → (rule6 p ≡ true) ↔ Covered p
 -- .. and a plan has no refusal exactly when it is accepted
 abbrev pub AcceptedTheorem : Type 0
 AcceptedTheorem = (p : Plan) → (planRefusal p ≡ 0) ↔ Accepted p
+
+-- a plan is refused by 14 exactly when it keeps rules 1 and 2 and two neighbouring thresholds differ by less than 100 millionths, whatever other
+-- rules it breaks
+abbrev pub TooCloseTheorem : Type 0
+TooCloseTheorem = (p : Plan) → (planRefusal p ≡ 14) ↔ ((rule1 p ≡ true) × ((rule2 p ≡ true) × (¬ Apart p)))
 
 -- an accepted plan has at most ten thresholds, and not only neighbours: any two of them lie at least 100 millionths apart
 abbrev pub ApartTheorem : Type 0

@@ -1,10 +1,10 @@
 -- Thresholds too close (rules 11.3): the refusals of plans as the definitions compute them, beside what the rules print, a line each.
-use mathlib.Core.Bool.{true}
 use mathlib.Core.List.{List, [], _∷_, _++_}
 use mathlib.Core.Path.{_≡_}
 use Prim.Native.Nat.{ℕ, _-_}
 use lib.ListN.{length, replicate}
-use Rattle.plan.specs.Plan.{countLimit, rule14, planRefusal}
+use Rattle.plan.specs.Plan.{countLimit, allowanceAt, planRefusal}
+use Rattle.plan.specs.PlanF.{planF}
 use Rattle.plan.specs.declared.Plan.{Plan}
 
 -- these thresholds with such an allowance each, and the buckets 0 to `end` and `end` to 1,000,000
@@ -20,9 +20,9 @@ planOf thresholds allowance end = record {
   right = end ∷ 1000000 ∷ replicate 14 0;
 }
 
--- the allowance of plan F
+-- the allowance of plan F, a thousandth of the whole
 abbrev thousandth : ℕ
-thousandth = 4398046511
+thousandth = allowanceAt planF 0
 
 unfoldable pub computed : List ℕ
 computed =
@@ -44,6 +44,11 @@ computed =
     ∷ planRefusal (planOf (1 ∷ 101 ∷ []) thousandth 1)
     ∷ planRefusal (planOf (999900 ∷ 999999 ∷ []) thousandth 999900)
     ∷ planRefusal (planOf (999899 ∷ 999999 ∷ []) thousandth 999899)
+    ∷ planRefusal (planOf (0 ∷ 50 ∷ []) thousandth 50)
+    -- as far apart as two can be
+    ∷ planRefusal (planOf (1 ∷ 999999 ∷ []) thousandth 1)
+    -- the last pair of three, with an allowance of 0
+    ∷ planRefusal (planOf (10000 ∷ 20000 ∷ 20099 ∷ []) 0 10000)
     -- the last pair of ten
     ∷ planRefusal (planOf (1 ∷ 101 ∷ 201 ∷ 301 ∷ 401 ∷ 501 ∷ 601 ∷ 701 ∷ 801 ∷ 900 ∷ []) thousandth 1)
     ∷ planRefusal (planOf (1 ∷ 101 ∷ 201 ∷ 301 ∷ 401 ∷ 501 ∷ 601 ∷ 701 ∷ 801 ∷ 901 ∷ []) thousandth 1)
@@ -58,11 +63,13 @@ printed =
     ∷ 2 ∷ 2
     ∷ 2 ∷ 2
     ∷ 14 ∷ 14 ∷ 14
-    ∷ 14 ∷ 0 ∷ 14 ∷ 0
+    ∷ 14 ∷ 0 ∷ 14 ∷ 0 ∷ 2
+    ∷ 0
+    ∷ 14
     ∷ 14 ∷ 0
     ∷ 0 ∷ 0
     ∷ []
 
--- the joint statement; and of one threshold, whatever stands in the places past it, rule 14 never refuses
+-- the joint statement; and a plan of one threshold, whatever stands in the places past it, is never refused by 14
 abbrev pub TrialsTheorem : Type 0
-TrialsTheorem = (computed ≡ printed) × ((p : Plan) → p .count ≡ 1 → rule14 p ≡ true)
+TrialsTheorem = (computed ≡ printed) × ((p : Plan) → p .count ≡ 1 → ¬ (planRefusal p ≡ 14))
