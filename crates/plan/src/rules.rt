@@ -1,10 +1,9 @@
 // The plan's rules: refusals 1, 2, 14, 3, 4, 5, 6 in this order, each over all entries before the next (rules 1.4, 8.2).
-ghost use mathlib.Core.Bool.{true};
 ghost use mathlib.Core.Path.{_≡_};
-ghost use Prim.Native.Nat.{ℕ, _≤_};
+ghost use Prim.Native.Nat.{ℕ, suc, _≤_, _<_};
 ghost use lib.ListN.{length, getD};
 ghost use Rattle.plan.specs.Places.{eq?, within, allTo, anyTo};
-ghost use Rattle.plan.specs.Plan.{countLimit, bucketLimit, countsFit, leftAt, rightAt, rule2, rule14, rule3, rule4, permitted, bucketFits, rule5, coveredAbove, rule6, planRefusal};
+ghost use Rattle.plan.specs.Plan.{countLimit, bucketLimit, countsFit, leftAt, rightAt, rule2, rule14, rule3, rule4, permitted, bucketFits, rule5, coveredAbove, planRefusal};
 use crate::BUCKET_LIMIT;
 use crate::COUNT_LIMIT;
 use crate::DELAY_LIMIT;
@@ -54,15 +53,16 @@ fn thresholds_rise(p: Plan) -> bool
     true
 }
 
-// Rule 14: every two neighbouring thresholds differ by at least 100 millionths. Judged after rules 1 and 2, so each is above the one before.
-fn thresholds_apart(p: Plan) -> bool
-    requires { ⌜ ((1 ≤ p .count) × (p .count ≤ countLimit)) × (rule2 p ≡ true) ⌝ }
-    ensures { λ r. ⌜ r ≡ rule14 p ⌝ }
+// Rule 14 of a plan with the first `count` of these thresholds, of at most ten: every two neighbours differ by at least 100 millionths. Judged
+// after rules 1 and 2, so that there is a threshold, and each is above the one before.
+fn thresholds_apart(ts: &[u32; COUNT_LIMIT], count: usize) -> bool
+    requires { ⌜ ((1 ≤ count) × (count ≤ countLimit)) × ((i : ℕ) → suc i < count → getD (now ts) i 0 < getD (now ts) (suc i) 0) ⌝ }
+    ensures { λ r. ⌜ ((p : Plan) → p .count ≡ count → p .thresholds ≡ now (ts .entry) → r ≡ rule14 p) ⌝ }
 {
-    let pairs = p.count as usize - 1;
+    let pairs = count - 1;
     for i in 0..pairs {
-        let before = p.thresholds[i];
-        let t = p.thresholds[i + 1];
+        let before = ts[i];
+        let t = ts[i + 1];
         if t - before < LEAST_DIFFERENCE {
             return false;
         }
@@ -176,28 +176,21 @@ fn covered_above<'a>(
     false
 }
 
-// Rule 6, past 0: what lies just above each right end is covered. Judged after rule 1.
-fn right_ends_covered(p: Plan) -> bool
-    requires { ⌜ p .buckets ≤ bucketLimit ⌝ }
-    ensures { λ r. ⌜ r ≡ allTo (p .buckets) (λ j. coveredAbove p (rightAt p j)) ⌝ }
+// Rule 6 of a plan with the first b of these buckets, of at most sixteen, past 0: what lies just above each right end is covered.
+fn right_ends_covered<'a>(
+    ls: &'a [u32; BUCKET_LIMIT],
+    rs: &'a [u32; BUCKET_LIMIT],
+    b: usize,
+) -> bool
+    requires { ⌜ b ≤ bucketLimit ⌝ }
+    ensures { λ r. ⌜ ((p : Plan) → p .buckets ≡ b → p .left ≡ now (ls .entry) → p .right ≡ now (rs .entry) → r ≡ allTo b (λ j. coveredAbove p (rightAt p j))) ⌝ }
 {
-    let b = p.buckets as usize;
     for j in 0..b {
-        let e = p.right[j];
-        if !covered_above(&p.left, &p.right, b, e) {
+        if !covered_above(ls, rs, b, rs[j]) {
             return false;
         }
     }
     true
-}
-
-// Rule 6: every p from 0 to 1 lies in some bucket. Judged after rule 1.
-fn buckets_cover(p: Plan) -> bool
-    requires { ⌜ p .buckets ≤ bucketLimit ⌝ }
-    ensures { λ r. ⌜ r ≡ rule6 p ⌝ }
-{
-    let b = p.buckets as usize;
-    is_among(&p.left, b, 0) && right_ends_covered(p)
 }
 
 // The refusal of a plan, 0 for an accepted one: any plan may be handed in.
@@ -210,7 +203,7 @@ pub fn plan_refusal(p: Plan) -> u32
     if !thresholds_rise(p) {
         return 2;
     }
-    if !thresholds_apart(p) {
+    if !thresholds_apart(&p.thresholds, p.count as usize) {
         return 14;
     }
     if !allowances_fit(p) {
@@ -222,7 +215,12 @@ pub fn plan_refusal(p: Plan) -> u32
     if !buckets_fit(p) {
         return 5;
     }
-    if !buckets_cover(p) {
+    // Rule 6: some bucket begins at 0, and past it nothing is left out.
+    let b = p.buckets as usize;
+    if !is_among(&p.left, b, 0) {
+        return 6;
+    }
+    if !right_ends_covered(&p.left, &p.right, b) {
         return 6;
     }
     0

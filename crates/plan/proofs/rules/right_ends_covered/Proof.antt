@@ -1,8 +1,10 @@
 -- What lies just above each right end before place j is covered.
-use mathlib.Core.Path.{refl}
+use mathlib.Core.Path.{_≡_, ap, _∙_}
 use mathlib.Core.Bool.{Bool, false}
+use mathlib.Core.List.{List}
 use Prim.Native.Nat.{ℕ, _-_}
 use borrow.Author.Needs.{needs}
+use lib.ListN.{getD}
 use Rattle.plan.specs.Plan.{rightAt, coveredAbove}
 use Rattle.plan.specs.declared.Plan.{Plan}
 use Rattle.plan.proofs.PlaceLaws.{passed, failed, Sought, sought-none, sought-next, sought-here, sought-nowhere}
@@ -12,33 +14,33 @@ use Rattle.plan.proofs.rules.right_ends_covered.Tie as tie
 abbrev covered : Plan → ℕ → Bool
 covered p j = coveredAbove p (rightAt p j)
 
+-- the code reads a right end where it stands in memory
+end-same : (p : Plan) {rs : List ℕ} → p .right ≡ rs → (j : ℕ) → covered p j ≡ coveredAbove p (getD rs j 0)
+end-same p e j = ap (λ xs. coveredAbove p (getD xs j 0)) e
+
 abbrev Inv-loop : tie.InvT-loop
-Inv-loop p b j₀ j = Sought false (covered p) b j
+Inv-loop ls rs b j₀ j = (p : Plan) → p .buckets ≡ b → p .left ≡ ls → p .right ≡ rs → Sought false (covered p) b j
 
 abbrev μ-loop : tie.MeasureT-loop
-μ-loop p b j₀ j = b - j
-
-cast-b : tie.Need-cast-b Inv-loop μ-loop
-cast-b c = search needs
+μ-loop ls rs b j₀ j = b - j
 
 loop-holds : tie.Need-loop-holds Inv-loop μ-loop
-loop-holds c = sought-none false _
+loop-holds c p b ls rs = sought-none false _
 
-mul-e : tie.Need-mul-e Inv-loop μ-loop
-mul-e c = search needs
+mul-covered-above : tie.Need-mul-covered-above Inv-loop μ-loop
+mul-covered-above c = search needs
 
-element-copy-out-e : tie.Need-element-copy-out-e Inv-loop μ-loop
-element-copy-out-e c = search needs
+element-copy-out-covered-above : tie.Need-element-copy-out-covered-above Inv-loop μ-loop
+element-copy-out-covered-above c = search needs
 
 covered-above-requires : tie.Need-covered-above-requires Inv-loop μ-loop
 covered-above-requires c κs = search needs
 
 returns : tie.Need-returns Inv-loop μ-loop
-returns c =
-    let p = c .before .before .before .before .before .before .before .before .args .t1 in
-    sought-here false _ (c .before .before .before .before .before .before .before .loop .inv)
-    (c .before .before .before .before .before .before .loop-test .taken)
-    (failed (c .before .covered-above .ensures p refl refl refl) (c .if1 .taken))
+returns c p b ls rs =
+    let l = c .before .before .before .before .loop in
+    sought-here false _ (l .inv p b ls rs) (c .before .before .before .loop-test .taken)
+    (end-same p rs (l .j) ∙ failed (c .before .covered-above .ensures p b ls rs) (c .if1 .taken))
 
 add-j : tie.Need-add-j Inv-loop μ-loop
 add-j c = search needs
@@ -47,14 +49,13 @@ loop-less : tie.Need-loop-less Inv-loop μ-loop
 loop-less c = search needs
 
 loop-again : tie.Need-loop-again Inv-loop μ-loop
-loop-again c =
-    let p = c .before .before .before .before .before .before .before .before .args .t1 in
-    sought-next false _ (c .before .before .before .before .before .before .before .loop .inv)
-    (c .before .before .before .before .before .before .loop-test .taken)
-    (passed (c .before .covered-above .ensures p refl refl refl) (c .if1 .left))
+loop-again c p b ls rs =
+    let l = c .before .before .before .before .loop in
+    sought-next false _ (l .inv p b ls rs) (c .before .before .before .loop-test .taken)
+    (end-same p rs (l .j) ∙ passed (c .before .covered-above .ensures p b ls rs) (c .if1 .left))
 
 returns-2 : tie.Need-returns-2 Inv-loop μ-loop
-returns-2 c = sought-nowhere false _ (c .before .loop .inv) (c .loop-test .left)
+returns-2 c p b ls rs = sought-nowhere false _ (c .before .loop .inv p b ls rs) (c .loop-test .left)
 
 pub right-ends-covered-spec : {M : Type 1} → statement M
 right-ends-covered-spec =
@@ -62,10 +63,9 @@ right-ends-covered-spec =
     (tie.spec
     Inv-loop
     μ-loop
-    cast-b
     loop-holds
-    mul-e
-    element-copy-out-e
+    mul-covered-above
+    element-copy-out-covered-above
     covered-above-requires
     returns
     add-j

@@ -1,38 +1,35 @@
 -- The neighbours before place i differ enough.
 use mathlib.Core.Bool.{false}
+use mathlib.Core.Path.{_≡_}
 use Prim.Native.Nat.{suc, _-_, _<_}
 use native.Mathlib.Numerals.{add-one}
 use native.Mathlib.Omega.{arith}
 use borrow.Author.Needs.{needs}
+use lib.ListN.{getD}
 use Rattle.walk.proofs.Tests.{le?-complete, le?-fails}
-use Rattle.plan.specs.Plan.{thresholdAt, apartFromNext}
+use Rattle.plan.specs.Plan.{apartFromNext}
+use Rattle.plan.specs.declared.Plan.{Plan}
 use Rattle.plan.proofs.PlaceLaws.{Sought, sought-none, sought-next, sought-here, sought-nowhere}
-use Rattle.plan.proofs.AcceptedLaws.{rule2-says}
 use Rattle.plan.proofs.rules.thresholds_apart.Statement.{statement}
 use Rattle.plan.proofs.rules.thresholds_apart.Tie as tie
 
 abbrev Inv-loop : tie.InvT-loop
-Inv-loop p pairs i₀ i = Sought false (apartFromNext p) pairs i
+Inv-loop ts count pairs i₀ i = (p : Plan) → p .thresholds ≡ ts → Sought false (apartFromNext p) pairs i
 
 abbrev μ-loop : tie.MeasureT-loop
-μ-loop p pairs i₀ i = pairs - i
+μ-loop ts count pairs i₀ i = pairs - i
 
 -- rule 2 keeps the difference from falling below 0
-rises : (c : tie.After-t Inv-loop μ-loop) → let p = c .before .before .before .before .args .t1 in let i = c .before .before .before .loop .i in
-    thresholdAt p i < thresholdAt p (suc i)
+rises : (c : tie.After-t Inv-loop μ-loop) → let ts = c .before .before .before .before .args .ts .now in let i = c .before .before .before .loop .i in
+    getD ts i 0 < getD ts (suc i) 0
 rises c =
-    let a = c .before .before .before .before in
-    let i = c .before .before .before .loop .i in
-    rule2-says (a .args .t1) .0 (a .pre .1) (suc i) (omega (arith, c .before .before .loop-test .taken)) .1
-
-cast-pairs : tie.Need-cast-pairs Inv-loop μ-loop
-cast-pairs c = search needs
+    c .before .before .before .before .pre .1 (c .before .before .before .loop .i) (omega (arith, c .before .before .loop-test .taken))
 
 sub-pairs : tie.Need-sub-pairs Inv-loop μ-loop
 sub-pairs c = search needs
 
 loop-holds : tie.Need-loop-holds Inv-loop μ-loop
-loop-holds c = sought-none false _
+loop-holds c p ts = sought-none false _
 
 mul-before : tie.Need-mul-before Inv-loop μ-loop
 mul-before c = search needs
@@ -53,10 +50,11 @@ sub-if1 : tie.Need-sub-if1 Inv-loop μ-loop
 sub-if1 c = rw (add-one (c .before .before .before .loop .i)) (omega (arith, rises c))
 
 returns : tie.Need-returns Inv-loop μ-loop
-returns c =
+returns c p count ts =
     let l = c .before .before .before .before .loop in
-    sought-here false _ (l .inv) (c .before .before .before .loop-test .taken)
-    (le?-fails _ _ (omega (arith, rises (c .before), rw (add-one (l .i)) at (c .if1 .taken))))
+    rw count
+    (sought-here false _ (l .inv p ts) (c .before .before .before .loop-test .taken)
+    (rw ts (le?-fails _ _ (omega (arith, rises (c .before), rw (add-one (l .i)) at (c .if1 .taken))))))
 
 add-i : tie.Need-add-i Inv-loop μ-loop
 add-i c = search needs
@@ -65,13 +63,13 @@ loop-less : tie.Need-loop-less Inv-loop μ-loop
 loop-less c = search needs
 
 loop-again : tie.Need-loop-again Inv-loop μ-loop
-loop-again c =
+loop-again c p ts =
     let l = c .before .before .before .before .loop in
-    sought-next false _ (l .inv) (c .before .before .before .loop-test .taken)
-    (le?-complete _ _ (omega (arith, rises (c .before), rw (add-one (l .i)) at (c .if1 .left))))
+    sought-next false _ (l .inv p ts) (c .before .before .before .loop-test .taken)
+    (rw ts (le?-complete _ _ (omega (arith, rises (c .before), rw (add-one (l .i)) at (c .if1 .left)))))
 
 returns-2 : tie.Need-returns-2 Inv-loop μ-loop
-returns-2 c = sought-nowhere false _ (c .before .loop .inv) (c .loop-test .left)
+returns-2 c p count ts = rw count (sought-nowhere false _ (c .before .loop .inv p ts) (c .loop-test .left))
 
 pub thresholds-apart-spec : {M : Type 1} → statement M
 thresholds-apart-spec =
@@ -79,7 +77,6 @@ thresholds-apart-spec =
     (tie.spec
     Inv-loop
     μ-loop
-    cast-pairs
     sub-pairs
     loop-holds
     mul-before
