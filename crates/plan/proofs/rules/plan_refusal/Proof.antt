@@ -3,8 +3,8 @@ use mathlib.Core.Path.{_≡_, refl, _∙_}
 use mathlib.Core.Bool.{Bool}
 use Prim.Native.Nat.{ℕ, suc}
 use borrow.Author.Needs.{needs}
-use Rattle.plan.specs.Places.{eq?, anyTo, firstRefusal}
-use Rattle.plan.specs.Plan.{leftAt, rule1, rule6, planRefusal}
+use Rattle.plan.specs.Places.{eq?, allTo, anyTo, firstRefusal}
+use Rattle.plan.specs.Plan.{leftAt, rightAt, rule1, coveredAbove, rule6, planRefusal}
 use Rattle.plan.specs.declared.Plan.{Plan}
 use Rattle.plan.proofs.PlaceLaws.{passed, failed, eq?-swap, any-cong}
 use Rattle.plan.proofs.AcceptedLaws.{Counted, counts-say, rule2-says, from2, from14, from3, from4, from5, from6}
@@ -72,6 +72,11 @@ past5 c = rw (past4 (to5 c), passed (c .before .buckets-fit .ensures) (c .if6 .l
 begins : (p : Plan) (x : ℕ) {r : Bool} → r ≡ anyTo (p .buckets) (λ j. eq? x (leftAt p j)) → r ≡ anyTo (p .buckets) (λ j. eq? (leftAt p j) x)
 begins p x e = e ∙ any-cong (p .buckets) _ _ (λ j l. eq?-swap x (leftAt p j))
 
+-- .. so past that test rule 6 is the other one
+past0 : (c : tie.Else7) → let p = planOf (first6 (to6 c)) in rule6 p ≡ allTo (p .buckets) (λ j. coveredAbove p (rightAt p j))
+unfolding rule6
+past0 c = rw (passed (begins (planOf (first6 (to6 c))) _ (c .before .is-among .ensures)) (c .if7 .left))
+
 -- ---- the needs
 
 counts-fit-requires : tie.Need-counts-fit-requires
@@ -134,18 +139,14 @@ right-ends-covered-requires : tie.Need-right-ends-covered-requires
 right-ends-covered-requires c κs = counts (first6 (to6 (c .before .before .before))) .1 .1
 
 returns-8 : tie.Need-returns-8
-unfolding rule6
 returns-8 c =
     let e = c .before .before .before .before .before in
-    let p = planOf (first6 (to6 e)) in
-    rw (past5 (to6 e), passed (begins p _ (e .before .is-among .ensures)) (e .if7 .left), failed (c .before .right-ends-covered .ensures p refl refl refl) (c .if8 .taken))
+    rw (past5 (to6 e), past0 e, failed (c .before .right-ends-covered .ensures (planOf (first6 (to6 e))) refl refl refl) (c .if8 .taken))
 
 returns-9 : tie.Need-returns-9
-unfolding rule6
 returns-9 c =
     let e = c .before .before .before .before .before in
-    let p = planOf (first6 (to6 e)) in
-    rw (past5 (to6 e), passed (begins p _ (e .before .is-among .ensures)) (e .if7 .left), passed (c .before .right-ends-covered .ensures p refl refl refl) (c .if8 .left))
+    rw (past5 (to6 e), past0 e, passed (c .before .right-ends-covered .ensures (planOf (first6 (to6 e))) refl refl refl) (c .if8 .left))
 
 pub plan-refusal-spec : {M : Type 1} → statement M
 plan-refusal-spec =
