@@ -6,11 +6,12 @@ use native.Mathlib.Numerals.{add-one}
 use native.Mathlib.Omega.{arith}
 use Rattle.walk.specs.Numbers.{lt?}
 use Rattle.walk.proofs.Tests.{clash, le?-complete, le?-fails}
-use Rattle.walk.proofs.Searches.{search-cong}
 use Rattle.plan.specs.Places.{eq?, largestTo, smallestTo}
 use Rattle.plan.specs.Plan.{leftAt, rightAt}
+use Rattle.bucket_choice.specs.Choice.{chosenBucket}
+use Rattle.bucket_choice.proofs.ChoiceLaws.{chosen-cong}
 use Rattle.bucket_test.specs.Turn.{recordAt, wideOpen}
-use Rattle.bucket_test.specs.Answers.{lowOf, highOf, anyWide, contains, firstBucket, firstThatFits, answerBy, answerOf, isEnding, refusalOf}
+use Rattle.bucket_test.specs.Answers.{lowOf, highOf, anyWide, firstThatFits, answerBy, answerOver, answerOf, isEnding, refusalOf}
 use Rattle.bucket_test.specs.declared.State.{State}
 use Rattle.plan.specs.declared.Plan.{Plan}
 use Rattle.bucket_test.specs.declared.Answer.the-variants.{Open, Decided, Crossed, Wide, Spent}
@@ -28,15 +29,15 @@ smallest-more i f most x e = rw (add-one i, e)
 -- ---- the answer rule, case by case
 
 module _ (p : Plan) (s : State) (low high : ℕ) (low-is : low ≡ lowOf p s) (high-is : high ≡ highOf p s) where
-  rule : answerOf p s ≡ answerBy p s low high
-  unfolding answerOf
+  rule : answerOf p s ≡ answerBy p s low high (chosenBucket p low high)
+  unfolding answerOver
   rule = rw (low-is, high-is)
 
   pub crossed : high < low → Crossed ≡ answerOf p s
   unfolding answerBy
   crossed h = rw (rule, le?-complete (suc high) low h)
 
-  module _ (straight : low ≤ high) (j : ℕ) (place : j ≡ firstBucket p low high) where
+  module _ (straight : low ≤ high) (j : ℕ) (place : j ≡ chosenBucket p low high) where
     pub decided : j < p .buckets → Decided (j + 1) ≡ answerOf p s
     unfolding answerBy
     decided l = rw (rule, le?-fails (suc high) low (omega arith), ← place, le?-complete (suc j) (p .buckets) l, add-one j)
@@ -69,8 +70,8 @@ first-says false false j false false = (refl, λ f. (refl, refl))
 
 module _ (p : Plan) (s : State) where
   rule-says : (refusalOf (answerOf p s) ≡ 0) × (isEnding (answerOf p s) ≡ false → (anyWide p s ≡ false) × (eq? (s .n) (p .horizon) ≡ false))
-  unfolding answerOf answerBy
-  rule-says = let j = firstBucket p (lowOf p s) (highOf p s) in first-says (lt? (highOf p s) (lowOf p s)) (lt? j (p .buckets)) j _ _
+  unfolding answerOver answerBy
+  rule-says = let j = chosenBucket p (lowOf p s) (highOf p s) in first-says (lt? (highOf p s) (lowOf p s)) (lt? j (p .buckets)) j _ _
 
   pub rule-answers : refusalOf (answerOf p s) ≡ 0
   rule-answers = rule-says .0
@@ -86,10 +87,6 @@ module _ (p : Plan) (s : State) where
 -- two plans with the same buckets, horizon and interval, and the same that is wide
 module _ (p q : Plan) (buckets : q .buckets ≡ p .buckets) (horizon : q .horizon ≡ p .horizon)
     (ends : (j : ℕ) → j < p .buckets → (leftAt q j ≡ leftAt p j) × (rightAt q j ≡ rightAt p j)) where
-  bucket-cong : (low high : ℕ) → firstBucket q low high ≡ firstBucket p low high
-  unfolding firstBucket contains
-  bucket-cong low high = rw buckets (search-cong (p .buckets) 0 _ _ (λ j l. rw (ends j (omega arith) .0, ends j (omega arith) .1)))
-
   pub answer-cong : (s : State) → lowOf q s ≡ lowOf p s → highOf q s ≡ highOf p s → anyWide q s ≡ anyWide p s → answerOf q s ≡ answerOf p s
-  unfolding answerOf answerBy
-  answer-cong s low high wides = rw (low, high, wides, bucket-cong (lowOf p s) (highOf p s), buckets, horizon)
+  unfolding answerOver answerBy
+  answer-cong s low high wides = rw (low, high, wides, chosen-cong p q buckets ends (lowOf p s) (highOf p s), buckets, horizon)

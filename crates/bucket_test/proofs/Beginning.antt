@@ -1,17 +1,17 @@
 -- A beginning answers `open`: no bucket contains the whole, nothing is wide, and the horizon is not 0.
 use mathlib.Core.Path.{_≡_, refl, sym}
-use mathlib.Core.Bool.{Bool, false, _&&_}
+use mathlib.Core.Bool.{false}
 use Prim.Native.Nat.{ℕ, zero, suc, _<_}
 use native.Mathlib.Omega.{arith}
 use lib.ListN.{getD-replicate}
 use Rattle.walk.specs.Units.{million}
-use Rattle.walk.proofs.Tests.{test, Le?, le, gt}
-use Rattle.walk.proofs.Searches.{search-only}
 use Rattle.walk.proofs.RecordLaws.{start-not-wide}
 use Rattle.plan.specs.Places.{largestTo, smallestTo}
-use Rattle.plan.specs.Plan.{leftAt, rightAt, Accepted}
+use Rattle.plan.specs.Plan.{rightAt, Accepted}
+use Rattle.bucket_choice.specs.Chosen.{Contains}
+use Rattle.bucket_choice.proofs.ChoiceLaws.{chosen-none}
 use Rattle.bucket_test.specs.Turn.{startRecord, noRecord, recordAt, wideOpen}
-use Rattle.bucket_test.specs.Answers.{lowOf, highOf, anyWide, contains, firstBucket, answerOf}
+use Rattle.bucket_test.specs.Answers.{lowOf, highOf, anyWide, answerOf}
 use Rattle.bucket_test.specs.Draw.{startState}
 use Rattle.plan.specs.declared.Plan.{Plan}
 use Rattle.bucket_test.specs.declared.Answer.the-variants.{Open}
@@ -47,24 +47,13 @@ module _ (p : Plan) (ok : Accepted p) where
   start-thin = none-reads (λ i. wideOpen (recordAt startState i)) (p .count) .1 (λ i l. rw (start-record i l) start-not-wide)
 
   -- an end is at most a million, so a bucket with left end 0 does not reach it
-  none-contains : (j : ℕ) → j < p .buckets → contains p 0 million j ≡ false
-  unfolding contains
-  none-contains j l = go (test (leftAt p j) 0) (test million (rightAt p j))
-    where
-      go : {x y : Bool} → Le? (leftAt p j) 0 x → Le? million (rightAt p j) y → (x && y) ≡ false
-      go (le h) (le k) =
-          absurd (ok .not-whole j l (omega arith, omega (arith, permitted-le p ok (rightAt p j) (ok .ends-permitted j l .1))))
-      go (le h) (gt k) = refl
-      go (gt h) k = refl
-
-  no-bucket : p .buckets ≡ firstBucket p 0 million
-  unfolding firstBucket
-  no-bucket =
-      sym (search-only (p .buckets) 0 (p .buckets) (contains p 0 million) (omega arith) (omega arith) (λ l. absurd (omega arith))
-      (λ i l k. none-contains i k))
+  none-contains : (j : ℕ) → ¬ Contains p 0 million j
+  none-contains j h =
+      ok .not-whole j (h .inside)
+      (omega (arith, h .left-fits), omega (arith, h .right-fits, permitted-le p ok (rightAt p j) (ok .ends-permitted j (h .inside) .1)))
 
   pub start-open : answerOf p startState ≡ Open
   unfolding startState
   start-open =
-      sym (open-yet p startState 0 million (sym start-low) (sym start-high) (omega arith) (p .buckets) no-bucket (omega arith) (sym start-thin)
+      sym (open-yet p startState 0 million (sym start-low) (sym start-high) (omega arith) (p .buckets) (sym (chosen-none p 0 million none-contains)) (omega arith) (sym start-thin)
       (λ e. omega (arith, ok .horizon-range, e)))

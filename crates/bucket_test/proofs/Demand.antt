@@ -19,8 +19,8 @@ use Rattle.plan.specs.Plan.{thresholdAt, spendingOf, planRefusal, Accepted}
 use Rattle.bucket_test.specs.Words.{partAt, Stands}
 use Rattle.bucket_test.specs.Turn.{recordAt}
 use Rattle.bucket_test.specs.Answers.{answerOf, isEnding, refusalOf}
-use Rattle.bucket_test.specs.Draw.{Outcome, beginRefusal, begun, drawRefusal, drawnBy, drawn}
-use Rattle.bucket_test.specs.Carried.{carried, hasEnded, takenBy, taken}
+use Rattle.bucket_test.specs.Draw.{Outcome, beginRefusal, begunOver, drawRefusalOver, drawRefusal, drawnBy, drawnOver, drawn}
+use Rattle.bucket_test.specs.Carried.{carriedOver, carried, hasEnded, takenBy, taken}
 use Rattle.bucket_test.specs.Demand3.{Marks, AnswersDraw, Answered, Demand3, Demand3Theorem}
 use Rattle.plan.proofs.AcceptedLaws.{threshold-ok, spends, accepted}
 use Rattle.bucket_test.proofs.AnsweringLaws.{rule-answers}
@@ -90,7 +90,7 @@ module _ (p : Plan) (ok : Accepted p) (good : planRefusal p ≡ 0) (words : List
   begin-accepted = rw (good, words-say p words .1 size)
 
   held-begin : Held []
-  unfolding carried taken hasEnded begun Answered
+  unfolding carriedOver taken hasEnded begunOver Answered
   held-begin = record {
     state-is = rw begin-accepted (start-state p ok);
     words-is = rw begin-accepted (start-words p ok);
@@ -106,7 +106,7 @@ module _ (p : Plan) (ok : Accepted p) (good : planRefusal p ≡ 0) (words : List
 
   -- the refusal of a draw to a carried test is what is due
   refusal-is : (s : Draws) → History p s → (d : ℕ) → drawRefusal p (stateFor p s) (wordsFor p s) d ≡ due d (isEnding (answerOf p (stateFor p s)))
-  unfolding drawRefusal due
+  unfolding drawRefusalOver due
   refusal-is s h d = rw (good, words-fit p ok s h, state-sound p ok s h)
 
   module _ (d : ℕ) (ds : List ℕ) (h : Held ds) where
@@ -115,7 +115,7 @@ module _ (p : Plan) (ok : Accepted p) (good : planRefusal p ≡ 0) (words : List
 
     -- the call, with the refusal r that is due
     abbrev call : ℕ → Outcome
-    call r = drawnBy r p (carried p words ds .state) (carried p words ds .words) d
+    call r = drawnBy answerOf r p (carried p words ds .state) (carried p words ds .words) d
 
     -- the draws taken then
     abbrev next : ℕ → Draws
@@ -162,7 +162,7 @@ module _ (p : Plan) (ok : Accepted p) (good : planRefusal p ≡ 0) (words : List
         go true false (le k) e = accepts k e
 
     called : carried p words (d ∷ ds) ≡ call (due d (hasEnded p words ds))
-    unfolding carried drawn
+    unfolding carriedOver drawnOver
     called = ap call due-is
 
     taken-cons : taken p words (d ∷ ds) ≡ takenBy (refusalOf (carried p words (d ∷ ds) .answer)) d (taken p words ds)
@@ -216,7 +216,7 @@ module _ (p : Plan) (ok : Accepted p) (good : planRefusal p ≡ 0) (words : List
 
     stays : (d : ℕ) → ¬ (refusalOf (carried p words (d ∷ ds) .answer) ≡ 0)
         → (carried p words (d ∷ ds) .state ≡ carried p words ds .state) × (carried p words (d ∷ ds) .words ≡ carried p words ds .words)
-    unfolding carried
+    unfolding carriedOver
     stays = refused-stays p (carried p words ds .state) (carried p words ds .words)
 
     pub demand-3-at : Demand3 p words ds

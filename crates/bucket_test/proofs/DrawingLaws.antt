@@ -20,7 +20,7 @@ use Rattle.plan.specs.Plan.{thresholdAt, spendingOf, planRefusal, Accepted}
 use Rattle.bucket_test.specs.Words.{partAt, wordsFit}
 use Rattle.bucket_test.specs.Turn.{recordAt, MayTurn, recordSound, recordTurn, partTurn, recordSoundAt, MayTurnAt}
 use Rattle.bucket_test.specs.Answers.{lowOf, highOf, answerOf, isEnding}
-use Rattle.bucket_test.specs.Draw.{Outcome, drawnOf, startState, startWords, noState, beginRefusal, begunBy, begun, stateSound, drawRefusal, nextState, nextWords, drawnBy, drawn, report}
+use Rattle.bucket_test.specs.Draw.{Outcome, drawnOf, startState, startWords, noState, beginRefusal, begunBy, begunOver, begun, stateSound, drawRefusalOver, drawRefusal, nextState, nextWords, drawnBy, drawnOver, drawn, reportOver, report}
 use Rattle.bucket_test.specs.declared.Threshold.{Threshold}
 use Rattle.bucket_test.specs.declared.State.{State}
 use Rattle.plan.specs.declared.Plan.{Plan}
@@ -94,8 +94,8 @@ hands e p q = (p ∙ ap drawnOf (sym e), q ∙ ap (λ (o : Outcome). o .words) (
 module _ (p : Plan) (ws : List ℕ) where
   -- ---- the ways out of a beginning
 
-  begun-by : (r : ℕ) → beginRefusal p ws ≡ r → begun p ws ≡ begunBy r p ws
-  unfolding begun
+  begun-by : (r : ℕ) → beginRefusal p ws ≡ r → begun p ws ≡ begunBy answerOf r p ws
+  unfolding begunOver
   begun-by r e = rw e
 
   pub begun-plan : (r : ℕ) → r ≡ planRefusal p → 0 < r → begun p ws ≡ record { answer = Refused r; state = noState; words = ws }
@@ -115,51 +115,51 @@ module _ (p : Plan) (ws : List ℕ) where
 -- ---- the ways out of a draw
 
 module _ (p : Plan) (s : State) (ws : List ℕ) (d : ℕ) where
-  pub drawn-by : (r : ℕ) → drawRefusal p s ws d ≡ r → drawn p s ws d ≡ drawnBy r p s ws d
-  unfolding drawn
+  pub drawn-by : (r : ℕ) → drawRefusal p s ws d ≡ r → drawn p s ws d ≡ drawnBy answerOf r p s ws d
+  unfolding drawnOver
   drawn-by r e = rw e
 
   abbrev pub Refuses : ℕ → Type 0
   Refuses r = drawn p s ws d ≡ record { answer = Refused r; state = s; words = ws }
 
   pub drawn-plan : (r : ℕ) → r ≡ planRefusal p → 0 < r → Refuses r
-  unfolding drawRefusal
+  unfolding drawRefusalOver
   drawn-plan zero e h = absurd (omega arith)
   drawn-plan (suc r) e h = drawn-by (suc r) (rw (← e))
 
   module _ (good : planRefusal p ≡ 0) where
     pub drawn-8 : wordsFit p ws ≡ false → Refuses 8
-    unfolding drawRefusal
+    unfolding drawRefusalOver
     drawn-8 h = drawn-by 8 (rw (good, h))
 
     module _ (fits : wordsFit p ws ≡ true) where
       pub drawn-9 : 1 < d → Refuses 9
-      unfolding drawRefusal
+      unfolding drawRefusalOver
       drawn-9 h = drawn-by 9 (rw (good, fits, le?-fails d 1 h))
 
       module _ (bit : d ≤ 1) where
         pub drawn-10 : isEnding (answerOf p s) ≡ true → Refuses 10
-        unfolding drawRefusal
+        unfolding drawRefusalOver
         drawn-10 h = drawn-by 10 (rw (good, fits, le?-complete d 1 bit, h))
 
         module _ (open-yet : isEnding (answerOf p s) ≡ false) where
           pub drawn-11 : stateSound p s ws ≡ false → Refuses 11
-          unfolding drawRefusal
+          unfolding drawRefusalOver
           drawn-11 h = drawn-by 11 (rw (good, fits, le?-complete d 1 bit, open-yet, h))
 
           pub drawn-0 : stateSound p s ws ≡ true
               → drawn p s ws d ≡ record { answer = answerOf p (nextState p s ws d); state = nextState p s ws d; words = nextWords p s ws d }
-          unfolding drawRefusal
+          unfolding drawRefusalOver
           drawn-0 h = drawn-by 0 (rw (good, fits, le?-complete d 1 bit, open-yet, h))
 
 -- ---- the answer to a state
 
 module _ (p : Plan) (s : State) where
   pub report-plan : (r : ℕ) → r ≡ planRefusal p → 0 < r → report p s ≡ record { answer = Refused r; low = 0; high = 0 }
-  unfolding report
+  unfolding reportOver
   report-plan zero e h = absurd (omega arith)
   report-plan (suc r) e h = rw (← e)
 
   pub report-0 : planRefusal p ≡ 0 → report p s ≡ record { answer = answerOf p s; low = lowOf p s; high = highOf p s }
-  unfolding report
+  unfolding reportOver
   report-0 e = rw e

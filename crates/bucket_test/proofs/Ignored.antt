@@ -9,7 +9,7 @@ use Rattle.plan.specs.Plan.{thresholdAt, allowanceAt, leftAt, rightAt, planRefu
 use Rattle.plan.specs.SameCounted.{SameRules}
 use Rattle.bucket_test.specs.Words.{wordsFit}
 use Rattle.bucket_test.specs.Answers.{lowOf, highOf, anyWide, answerOf}
-use Rattle.bucket_test.specs.Draw.{startState, startWords, beginRefusal, begunBy, begun, stateSound, drawRefusal, nextState, nextWords, drawnBy, drawn, reportBy, report}
+use Rattle.bucket_test.specs.Draw.{startState, startWords, beginRefusal, begunBy, begunOver, begun, stateSound, drawRefusalOver, drawRefusal, nextState, nextWords, drawnBy, drawnOver, drawn, reportBy, reportOver, report}
 use Rattle.bucket_test.specs.Ignored.{SameTest, IgnoredTheorem}
 use Rattle.bucket_test.specs.declared.Threshold.{Threshold}
 use Rattle.bucket_test.specs.declared.State.{State}
@@ -45,20 +45,20 @@ module _ (p : Plan) (thresholds allowances left right : List ℕ)
     answer-same = answer-cong p q refl refl ends s low-same high-same refl
 
     report-same : report q s ≡ report p s
-    unfolding report
+    unfolding reportOver
     report-same = rw (rules .refusal-same) (go (planRefusal p))
       where
-        go : (r : ℕ) → reportBy r q s ≡ reportBy r p s
+        go : (r : ℕ) → reportBy answerOf r q s ≡ reportBy answerOf r p s
         go zero = rw (answer-same, low-same, high-same)
         go (suc r) = refl
 
   -- ---- a beginning, a draw
 
   begun-same : (words : List ℕ) → begun q words ≡ begun p words
-  unfolding begun beginRefusal wordsFit startWords
+  unfolding begunOver beginRefusal wordsFit startWords
   begun-same words = rw (rules .refusal-same) (go (beginRefusal p words))
     where
-      go : (r : ℕ) → begunBy r q words ≡ begunBy r p words
+      go : (r : ℕ) → begunBy answerOf r q words ≡ begunBy answerOf r p words
       go zero = rw (answer-same startState)
       go (suc r) = refl
 
@@ -81,14 +81,14 @@ module _ (p : Plan) (thresholds allowances left right : List ℕ)
       words-same = join-cong (p .count) _ _ (λ i l. rw (entries i l .0, rules .spending-same i l (suc (s .n))))
 
       refusal-same : drawRefusal q s words d ≡ drawRefusal p s words d
-      unfolding drawRefusal wordsFit
+      unfolding drawRefusalOver wordsFit
       refusal-same = rw (rules .refusal-same, answer-same s, sound-same)
 
       drawn-same : drawn q s words d ≡ drawn p s words d
-      unfolding drawn
+      unfolding drawnOver
       drawn-same = rw refusal-same (go (drawRefusal p s words d))
         where
-          go : (r : ℕ) → drawnBy r q s words d ≡ drawnBy r p s words d
+          go : (r : ℕ) → drawnBy answerOf r q s words d ≡ drawnBy answerOf r p s words d
           go zero = rw (state-same, words-same, answer-same (nextState p s words d))
           go (suc r) = refl
 

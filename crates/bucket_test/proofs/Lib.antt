@@ -3,6 +3,7 @@ mod PartLaws
 pub mod Ignored
 -- A draw to any state, and what a refusal hands back.
 pub mod OneStep
+pub mod AsBefore
 pub mod Refusing
 -- A carried test: one threshold, the whole state, the beginning, demand 3.
 mod OneThreshold

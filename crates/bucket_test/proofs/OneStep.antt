@@ -25,7 +25,7 @@ use Rattle.plan.specs.Plan.{thresholdAt, spendingOf, planRefusal, Accepted}
 use Rattle.bucket_test.specs.Words.{partAt, wordsFit, Stands}
 use Rattle.bucket_test.specs.Turn.{noRecord, recordAt, marked, walkedOn, turnRecord, turnPart}
 use Rattle.bucket_test.specs.Answers.{answerOf, isEnding}
-use Rattle.bucket_test.specs.Draw.{stateSound, drawRefusal, nextState, nextWords}
+use Rattle.bucket_test.specs.Draw.{stateSound, drawRefusalOver, drawRefusal, nextState, nextWords}
 use Rattle.bucket_test.specs.OneStep.{MarkedAt, steppedAt, OneStep, OneStepTheorem}
 use Rattle.bucket_test.specs.declared.Threshold.{Threshold}
 use Rattle.bucket_test.specs.declared.State.{State}
@@ -72,7 +72,7 @@ module _ (a : ℕ) (threshold : a ≤ million) (E : ℕ → ℕ) (spends : IsSpe
 -- what was judged
 drawn-says : (p : Plan) (s : State) (ws : List ℕ) (d : ℕ) → drawRefusal p s ws d ≡ 0
     → (planRefusal p ≡ 0) × (length ws ≡ wide * p .count) × (isEnding (answerOf p s) ≡ false) × (stateSound p s ws ≡ true)
-unfolding drawRefusal
+unfolding drawRefusalOver
 drawn-says p s ws d e =
     go (planRefusal p) (wordsFit p ws) (le? d 1) (isEnding (answerOf p s)) (stateSound p s ws) e (words-say p ws .0)
   where

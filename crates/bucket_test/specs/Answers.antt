@@ -1,13 +1,14 @@
 -- Interval and answer of a state under a plan (rules 7). The state may be any; thresholds of an accepted plan
 -- are below 1,000,000.
-use mathlib.Core.Bool.{Bool, true, false, _&&_}
+use mathlib.Core.Bool.{Bool, true, false}
 use mathlib.Core.List.{List, [], _∷_}
 use Prim.Native.Nat.{ℕ, suc}
-use Rattle.walk.specs.Numbers.{le?, lt?, only, choose, searchUp}
+use Rattle.walk.specs.Numbers.{lt?, only, choose}
 use Rattle.walk.specs.Units.{million}
 use Rattle.walk.specs.Strings.{Upper, Lower, isOn}
 use Rattle.plan.specs.Places.{eq?, anyTo, largestTo, smallestTo}
-use Rattle.plan.specs.Plan.{thresholdAt, leftAt, rightAt}
+use Rattle.plan.specs.Plan.{thresholdAt}
+use Rattle.bucket_choice.specs.Choice.{Choice, chosenBucket}
 use Rattle.bucket_test.specs.Turn.{recordAt, wideOpen}
 use Rattle.bucket_test.specs.declared.State.{State}
 use Rattle.plan.specs.declared.Plan.{Plan}
@@ -27,14 +28,6 @@ module _ (p : Plan) (s : State) where
   unfoldable pub anyWide : Bool
   anyWide = anyTo (p .count) (λ i. wideOpen (recordAt s i))
 
--- the bucket at place j contains the interval from low to high
-unfoldable pub contains : Plan → ℕ → ℕ → ℕ → Bool
-contains p low high j = le? (leftAt p j) low && le? high (rightAt p j)
-
--- the place of the first bucket in plan order that contains the interval; B where none does
-unfoldable pub firstBucket : Plan → ℕ → ℕ → ℕ
-firstBucket p low high = searchUp (p .buckets) 0 (contains p low high)
-
 -- the first that fits of: crossed, decided with the bucket at place j, wide, spent, open
 abbrev pub firstThatFits : Bool → Bool → ℕ → Bool → Bool → Answer
 firstThatFits true decided j wide spent = Crossed
@@ -43,12 +36,19 @@ firstThatFits false false j true spent = Wide
 firstThatFits false false j false true = Spent
 firstThatFits false false j false false = Open
 
-unfoldable pub answerBy : Plan → State → ℕ → ℕ → Answer
-answerBy p s low high =
-    firstThatFits (lt? high low) (lt? (firstBucket p low high) (p .buckets)) (firstBucket p low high) (anyWide p s) (eq? (s .n) (p .horizon))
+-- the answer where the interval is from low to high and the bucket named for it is the one at place j
+unfoldable pub answerBy : Plan → State → ℕ → ℕ → ℕ → Answer
+answerBy p s low high j = firstThatFits (lt? high low) (lt? j (p .buckets)) j (anyWide p s) (eq? (s .n) (p .horizon))
 
-unfoldable pub answerOf : Plan → State → Answer
-answerOf p s = answerBy p s (lowOf p s) (highOf p s)
+-- the answer rule over a choice of buckets, and the test's own
+abbrev pub Rule : Type 0
+Rule = Plan → State → Answer
+
+unfoldable pub answerOver : Choice → Rule
+answerOver choice p s = answerBy p s (lowOf p s) (highOf p s) (choice p (lowOf p s) (highOf p s))
+
+abbrev pub answerOf : Rule
+answerOf = answerOver chosenBucket
 
 -- ---- what each case of an answer says in the rules
 

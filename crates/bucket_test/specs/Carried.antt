@@ -5,14 +5,17 @@ use mathlib.Core.List.{List, [], _∷_}
 use Prim.Native.Nat.{ℕ, zero, suc}
 use Rattle.walk.specs.Numbers.{le?}
 use Rattle.walk.specs.Strings.{Draws}
-use Rattle.bucket_test.specs.Answers.{isEnding, refusalOf}
-use Rattle.bucket_test.specs.Draw.{Outcome, begun, drawn}
+use Rattle.bucket_test.specs.Answers.{Rule, answerOf, isEnding, refusalOf}
+use Rattle.bucket_test.specs.Draw.{Outcome, begunOver, drawnOver}
 use Rattle.plan.specs.declared.Plan.{Plan}
 
--- what the last call handed back, after the draws ds from a beginning on these words
-unfoldable pub carried : Plan → List ℕ → List ℕ → Outcome
-carried p words [] = begun p words
-carried p words (d ∷ ds) = drawn p (carried p words ds .state) (carried p words ds .words) d
+-- what the last call handed back, after the draws ds from a beginning on these words: over an answer rule, and by the test's own
+unfoldable pub carriedOver : Rule → Plan → List ℕ → List ℕ → Outcome
+carriedOver rule p words [] = begunOver rule p words
+carriedOver rule p words (d ∷ ds) = drawnOver rule p (carriedOver rule p words ds .state) (carriedOver rule p words ds .words) d
+
+abbrev pub carried : Plan → List ℕ → List ℕ → Outcome
+carried = carriedOver answerOf
 
 -- some draw of the list had an ending answer
 unfoldable pub hasEnded : Plan → List ℕ → List ℕ → Bool

@@ -7,5 +7,6 @@ pub mod Refused
 pub mod Ignored
 pub mod OneStep
 pub mod Carried
+pub mod AsBefore
 pub mod Demand3
 pub mod Trials

@@ -1,19 +1,20 @@
--- The trials that are proved, P1 to P10 (rules 11.1), and the two powers of 2: what is computed from the definitions beside what the rules
--- print, a line each.
+-- The trials that are proved, P1 to P10 (rules 11.1), the two powers of 2, and answers that name the narrowest bucket (rules 11.4): what is
+-- computed from the definitions beside what the rules print, a line each.
 use mathlib.Core.Path.{_≡_}
-use mathlib.Core.List.{List, [], _∷_, map}
-use Prim.Native.Nat.{ℕ, _+_, _^_}
+use mathlib.Core.List.{List, [], _∷_, _++_, map}
+use Prim.Native.Nat.{ℕ, _+_, _-_, _^_}
 use lib.IntN.{ℤ, pos, negsuc}
-use lib.ListN.{replicate}
+use lib.ListN.{length, replicate}
 use Rattle.walk.specs.Units.{M, massLimit}
 use Rattle.walk.specs.Spending.{spending}
 use Rattle.walk.specs.Walk.{walk, lower}
 use Rattle.walk.specs.declared.Mark.{Mark}
 use Rattle.walk.specs.declared.Mark.the-variants.{Open, Above, AtMost}
-use Rattle.plan.specs.Plan.{thresholdAt, spendingOf, planRefusal}
+use Rattle.plan.specs.Plan.{countLimit, thresholdAt, spendingOf, planRefusal}
 use Rattle.plan.specs.PlanF.{planF}
+use Rattle.bucket_choice.specs.Trials.{planWith, starPlan}
 use Rattle.bucket_test.specs.Turn.{startRecord}
-use Rattle.bucket_test.specs.Answers.{lowOf, highOf, answerOf, wordOf}
+use Rattle.bucket_test.specs.Answers.{lowOf, highOf, answerOf, bucketOf, wordOf}
 use Rattle.bucket_test.specs.declared.State.{State}
 use Rattle.plan.specs.declared.Plan.{Plan}
 
@@ -40,13 +41,21 @@ planOfTwo allowance end = record {
   right = end ∷ 1000000 ∷ replicate 14 0;
 }
 
--- ten draws taken, and the two thresholds so marked
-abbrev stateMarked : Mark → Mark → State
-stateMarked m k = record {
+-- ten draws taken, and the thresholds so marked
+abbrev stateMarked : List Mark → State
+stateMarked ms = record {
   n = 10;
   ones = 1;
-  records = record { mark = m; walked = startRecord .walked } ∷ record { mark = k; walked = startRecord .walked } ∷ replicate 8 startRecord;
+  records = map (λ m. record { mark = m; walked = startRecord .walked }) ms ++ replicate (countLimit - length ms) startRecord;
 }
+
+-- thresholds 10,000 and 50,000, and buckets up to each and from each on: two of them contain an interval that ends at both
+abbrev planOfFour : Plan
+planOfFour = planWith (10000 ∷ 50000 ∷ []) 4398046511 200 4 (0 ∷ 0 ∷ 10000 ∷ 50000 ∷ []) (50000 ∷ 10000 ∷ 1000000 ∷ 1000000 ∷ [])
+
+-- the bucket's number, low and high of the answer to the state s
+abbrev answered : Plan → State → List ℤ
+answered p s = pos (bucketOf (answerOf p s)) ∷ pos (lowOf p s) ∷ pos (highOf p s) ∷ []
 
 -- the upper and the lower boundary of step t
 abbrev boundaries : ℕ → (ℕ → ℕ) → ℕ → List ℤ
@@ -76,13 +85,19 @@ computed =
     ∷ boundaries 400000 spending5 2
     ∷ boundaries 400000 spending5 3
     -- P7: low and high
-    ∷ (pos (lowOf (planOfTwo 4398046511 50000) (stateMarked (Above 5) Open)) ∷ pos (highOf (planOfTwo 4398046511 50000) (stateMarked (Above 5) Open)) ∷ [])
+    ∷ (pos (lowOf (planOfTwo 4398046511 50000) (stateMarked (Above 5 ∷ Open ∷ []))) ∷ pos (highOf (planOfTwo 4398046511 50000) (stateMarked (Above 5 ∷ Open ∷ []))) ∷ [])
     -- P8: the word
-    ∷ map pos (wordOf (answerOf (planOfTwo 4398046511 50000) (stateMarked (AtMost 5) (Above 5))))
+    ∷ map pos (wordOf (answerOf (planOfTwo 4398046511 50000) (stateMarked (AtMost 5 ∷ Above 5 ∷ []))))
     -- P9
     ∷ (pos (planRefusal (planOfTwo 2199023255552 50000)) ∷ [])
     -- P10
     ∷ (pos (planRefusal (planOfTwo 4398046511 10000)) ∷ [])
+    -- the narrower of two buckets; the only one; crossed, of which every bucket contains the interval; the star buckets
+    ∷ answered planOfFour (stateMarked (AtMost 5 ∷ AtMost 5 ∷ []))
+    ∷ answered planOfFour (stateMarked (Above 5 ∷ Above 5 ∷ []))
+    ∷ answered planOfFour (stateMarked (Above 5 ∷ AtMost 5 ∷ []))
+    ∷ answered planOfFour (stateMarked (AtMost 5 ∷ Above 5 ∷ []))
+    ∷ answered starPlan (stateMarked (Above 5 ∷ Above 5 ∷ replicate 7 (AtMost 5)))
     ∷ []
 
 unfoldable pub printed : List (List ℤ)
@@ -115,8 +130,14 @@ printed =
     ∷ (pos 3 ∷ [])
     -- P10
     ∷ (pos 6 ∷ [])
+    -- the narrowest bucket
+    ∷ (pos 2 ∷ pos 0 ∷ pos 10000 ∷ [])
+    ∷ (pos 4 ∷ pos 50000 ∷ pos 1000000 ∷ [])
+    ∷ (pos 1 ∷ pos 10000 ∷ pos 50000 ∷ [])
+    ∷ (pos 0 ∷ pos 50000 ∷ pos 10000 ∷ [])
+    ∷ (pos 5 ∷ pos 1000 ∷ pos 2000 ∷ [])
     ∷ []
 
--- the joint statement, and that plan F is accepted
+-- the joint statement, and that these plans are accepted
 abbrev pub TrialsTheorem : Type 0
-TrialsTheorem = (computed ≡ printed) × (planRefusal planF ≡ 0)
+TrialsTheorem = (computed ≡ printed) × ((planRefusal planF ≡ 0) × ((planRefusal planOfFour ≡ 0) × (planRefusal starPlan ≡ 0)))

@@ -3,19 +3,19 @@
 use crate::Answer;
 use crate::State;
 use crate::Threshold;
+use bucket_choice::choosing::chosen_bucket;
 use plan::Plan;
 use walk::MILLION;
 use walk::Mark;
 use walk::soundness::is_wide;
 ghost use mathlib.Core.Path.{_≡_};
-ghost use mathlib.Core.Bool.{_&&_};
 ghost use Prim.Native.Nat.{_≤_, max, min};
-ghost use Rattle.walk.specs.Numbers.{le?, only, choose};
+ghost use Rattle.walk.specs.Numbers.{only, choose};
 ghost use Rattle.walk.specs.Units.{million};
 ghost use Rattle.walk.specs.Strings.{Upper, Lower, isOn};
 ghost use Rattle.plan.specs.Plan.{countLimit, bucketLimit};
 ghost use Rattle.bucket_test.specs.Turn.{wideOpen};
-ghost use Rattle.bucket_test.specs.Answers.{lowOf, highOf, anyWide, firstBucket, answerOf};
+ghost use Rattle.bucket_test.specs.Answers.{lowOf, highOf, anyWide, answerOf};
 
 // The interval from low to high, in millionths.
 pub(crate) struct Interval {
@@ -104,35 +104,6 @@ fn any_wide(p: Plan, s: State) -> bool
     false
 }
 
-// A bucket from left to right contains the interval from low to high.
-fn contains(left: u32, right: u32, low: u32, high: u32) -> bool
-    ensures { λ r. ⌜ r ≡ (le? left low && le? high right) ⌝ }
-{
-    if left <= low {
-        return high <= right;
-    }
-    false
-}
-
-// The place of the first bucket that contains the interval, or the number of buckets.
-fn first_bucket(p: Plan, low: u32, high: u32) -> u32
-    requires { ⌜ p .buckets ≤ bucketLimit ⌝ }
-    ensures { λ r. ⌜ r ≡ firstBucket p low high ⌝ }
-{
-    let buckets = p.buckets;
-    let left = p.left;
-    let right = p.right;
-    let mut j: u32 = 0;
-    while j < buckets {
-        let at = j as usize;
-        if contains(left[at], right[at], low, high) {
-            return j;
-        }
-        j += 1;
-    }
-    j
-}
-
 // The first answer that fits, where the plan is accepted.
 pub(crate) fn answer_of(p: Plan, s: State) -> Answer
     requires { ⌜ (p .count ≤ countLimit) × (p .buckets ≤ bucketLimit) ⌝ }
@@ -142,7 +113,7 @@ pub(crate) fn answer_of(p: Plan, s: State) -> Answer
     if v.low > v.high {
         return Answer::Crossed;
     }
-    let j = first_bucket(p, v.low, v.high);
+    let j = chosen_bucket(p, v.low, v.high);
     if j < p.buckets {
         return Answer::Decided(j + 1);
     }

@@ -12,7 +12,7 @@ use Rattle.walk.specs.Numbers.{le?}
 use Rattle.walk.proofs.Tests.{clash}
 use Rattle.bucket_test.specs.Answers.{refusalOf}
 use Rattle.bucket_test.specs.Draw.{Outcome, drawnOf, outcomeOf, drawn}
-use Rattle.bucket_test.specs.Carried.{carried, taken}
+use Rattle.bucket_test.specs.Carried.{carriedOver, carried, taken}
 use Rattle.bucket_test.proofs.Ignored.{ignored}
 use Rattle.bucket_test.proofs.Refusing.{refused-stays}
 use Rattle.console.specs.Run.{answerOpen, whileOpen, ran, followedBy, RunsTo, RunTheorem, RunIgnoredTheorem}
@@ -58,7 +58,7 @@ module _ (p : Plan) (words : List ℕ) where
 
   first-stays : (ds : List ℕ) (d : ℕ) (o : Outcome) → o ≡ carried p words (d ∷ ds) → ¬ (refusalOf (o .answer) ≡ 0)
       → (o .state ≡ carried p words ds .state) × (o .words ≡ carried p words ds .words)
-  unfolding carried
+  unfolding carriedOver
   first-stays ds d o e r =
       let s = refused-stays p (carried p words ds .state) (carried p words ds .words) d (rw e at r) in
       rw e s
@@ -101,7 +101,7 @@ module _ (p : Plan) (words : List ℕ) where
       stays (suc k) h r = rest .refused-stays k (omega arith) r
 
   run-all : (ds es : List ℕ) → RunsTo p words ds es (ran p (carried p words ds) es)
-  unfolding ran carried
+  unfolding ran carriedOver
   run-all ds [] = none-handed ds [] (λ l. absurd (omega arith))
   run-all ds (d ∷ es) = go (answerOpen (carried p words ds .answer)) refl (run-all (d ∷ ds) es)
     where

@@ -29,6 +29,28 @@ search-only (suc n) j r test l h hit miss =
     go (inl e) rest = let t : test j ≡ true = rw e (hit (omega arith)) in rw (t, e)
     go (inr k) rest = rw (miss j (omega arith) k) (rest k)
 
+-- where it ends before j + n, that place passes; those before it fail
+pub search-hit : (n j : ℕ) (test : ℕ → Bool) → searchUp n j test < j + n → test (searchUp n j test) ≡ true
+unfolding searchUp
+search-hit zero j test l = absurd (omega arith)
+search-hit (suc n) j test l = go (test j) refl l (search-hit n (suc j) test)
+  where
+    go : (b : Bool) → test j ≡ b → choose b j (searchUp n (suc j) test) < j + suc n
+        → (searchUp n (suc j) test < suc j + n → test (searchUp n (suc j) test) ≡ true) → test (choose b j (searchUp n (suc j) test)) ≡ true
+    go true e l rest = e
+    go false e l rest = rest (omega arith)
+
+pub search-miss : (n j : ℕ) (test : ℕ → Bool) (i : ℕ) → j ≤ i → i < searchUp n j test → test i ≡ false
+unfolding searchUp
+search-miss zero j test i l h = absurd (omega arith)
+search-miss (suc n) j test i l h = go (test j) refl h (eq-or-lt-of-le l) (search-miss n (suc j) test i)
+  where
+    go : (b : Bool) → test j ≡ b → i < choose b j (searchUp n (suc j) test) → (j ≡ i) ⊎ (j < i)
+        → (suc j ≤ i → i < searchUp n (suc j) test → test i ≡ false) → test i ≡ false
+    go true e h k rest = absurd (omega arith)
+    go false e h (inl q) rest = rw (← q) e
+    go false e h (inr k) rest = rest k h
+
 -- at place j of n: it stops, or it goes on
 pub search-stops : (n j : ℕ) (test : ℕ → Bool) → (j < n → test j ≡ true) → searchUp (n - j) j test ≡ j
 search-stops n j test e = search-only (n - j) j j test (omega arith) (omega arith) (λ l. e (omega arith)) (λ i l k. absurd (omega arith))

@@ -11,8 +11,8 @@ interval-of-requires c κs = search needs
 returns : tie.Need-returns
 returns c = let v = c .before .before .interval-of .ensures in crossed _ _ _ _ (v .0) (v .1) (c .if1 .taken)
 
-first-bucket-requires : tie.Need-first-bucket-requires
-first-bucket-requires c κs = search needs
+chosen-bucket-requires : tie.Need-chosen-bucket-requires
+chosen-bucket-requires c κs = search needs
 
 add-t6 : tie.Need-add-t6
 add-t6 c = search needs
@@ -21,7 +21,7 @@ returns-2 : tie.Need-returns-2
 returns-2 c =
     let b = c .before .before in
     let v = b .before .before .before .interval-of .ensures in
-    decided _ _ _ _ (v .0) (v .1) (b .before .if1 .left) _ (b .first-bucket .ensures) (c .if2 .taken)
+    decided _ _ _ _ (v .0) (v .1) (b .before .if1 .left) _ (b .chosen-bucket .ensures) (c .if2 .taken)
 
 any-wide-requires : tie.Need-any-wide-requires
 any-wide-requires c κs = search needs
@@ -30,7 +30,7 @@ returns-3 : tie.Need-returns-3
 returns-3 c =
     let b = c .before .before .before .before in
     let v = b .before .before .before .interval-of .ensures in
-    wide _ _ _ _ (v .0) (v .1) (b .before .if1 .left) _ (b .first-bucket .ensures) (c .before .before .if2 .left)
+    wide _ _ _ _ (v .0) (v .1) (b .before .if1 .left) _ (b .chosen-bucket .ensures) (c .before .before .if2 .left)
     (sym (c .if3 .taken) ∙ c .before .any-wide .ensures)
 
 returns-4 : tie.Need-returns-4
@@ -38,7 +38,7 @@ returns-4 c =
     let w = c .before .before .before .before in
     let b = w .before .before .before in
     let v = b .before .before .before .interval-of .ensures in
-    spent _ _ _ _ (v .0) (v .1) (b .before .if1 .left) _ (b .first-bucket .ensures) (w .before .if2 .left)
+    spent _ _ _ _ (v .0) (v .1) (b .before .if1 .left) _ (b .chosen-bucket .ensures) (w .before .if2 .left)
     (sym (c .before .before .before .if3 .left) ∙ w .any-wide .ensures) (c .if4 .taken)
 
 returns-5 : tie.Need-returns-5
@@ -46,7 +46,7 @@ returns-5 c =
     let w = c .before .before .before .before in
     let b = w .before .before .before in
     let v = b .before .before .before .interval-of .ensures in
-    open-yet _ _ _ _ (v .0) (v .1) (b .before .if1 .left) _ (b .first-bucket .ensures) (w .before .if2 .left)
+    open-yet _ _ _ _ (v .0) (v .1) (b .before .if1 .left) _ (b .chosen-bucket .ensures) (w .before .if2 .left)
     (sym (c .before .before .before .if3 .left) ∙ w .any-wide .ensures) (c .if4 .left)
 
 pub answer-of-spec : {M : Type 1} → statement M
@@ -55,7 +55,7 @@ answer-of-spec =
     (tie.spec
     interval-of-requires
     returns
-    first-bucket-requires
+    chosen-bucket-requires
     add-t6
     returns-2
     any-wide-requires

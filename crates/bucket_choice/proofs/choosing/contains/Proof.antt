@@ -1,8 +1,8 @@
 -- The two tests of the definition, one after the other.
 use Rattle.walk.specs.Numbers.{le?}
 use Rattle.walk.proofs.Tests.{le?-complete, le?-fails}
-use Rattle.bucket_test.proofs.answering.contains.Statement.{statement}
-use Rattle.bucket_test.proofs.answering.contains.Tie as tie
+use Rattle.bucket_choice.proofs.choosing.contains.Statement.{statement}
+use Rattle.bucket_choice.proofs.choosing.contains.Tie as tie
 
 returns : tie.Need-returns
 unfolding le?

@@ -1,0 +1,55 @@
+// Of the buckets that contain an interval from low to high, in millionths, the first of the narrowest (rules 7.1, 7.2).
+
+use plan::Plan;
+ghost use mathlib.Core.Path.{_≡_};
+ghost use mathlib.Core.Bool.{_&&_};
+ghost use Prim.Native.Nat.{_-_, _≤_};
+ghost use Rattle.walk.specs.Numbers.{le?};
+ghost use Rattle.plan.specs.Plan.{bucketLimit};
+ghost use Rattle.bucket_choice.specs.Choice.{chosenBucket};
+
+// No bucket is wider.
+const WIDEST: u32 = 0xFFFFFFFF;
+
+// A bucket from left to right contains the interval.
+fn contains(left: u32, right: u32, low: u32, high: u32) -> bool
+    ensures { λ r. ⌜ r ≡ (le? left low && le? high right) ⌝ }
+{
+    if left <= low {
+        return high <= right;
+    }
+    false
+}
+
+// The width of a bucket from left to right.
+fn width_of(left: u32, right: u32) -> u32
+    requires { ⌜ left ≤ right ⌝ }
+    ensures { λ r. ⌜ r ≡ right - left ⌝ }
+{
+    right - left
+}
+
+// Its place, or the number of buckets where none contains the interval. From the last bucket to the first, so that of equally narrow ones
+// the first is held at the end.
+pub fn chosen_bucket(p: Plan, low: u32, high: u32) -> u32
+    requires { ⌜ (p .buckets ≤ bucketLimit) × (low ≤ high) ⌝ }
+    ensures { λ r. ⌜ r ≡ chosenBucket p low high ⌝ }
+{
+    let mut place = p.buckets;
+    let mut least = WIDEST;
+    let mut j = p.buckets;
+    while j > 0 {
+        j -= 1;
+        let at = j as usize;
+        let left = p.left[at];
+        let right = p.right[at];
+        if contains(left, right, low, high) {
+            let width = width_of(left, right);
+            if width <= least {
+                place = j;
+                least = width;
+            }
+        }
+    }
+    place
+}

@@ -1,0 +1,2 @@
+// The bucket that is named for an interval.
+pub mod choosing;
