@@ -1,3 +1,5 @@
--- Of the buckets that contain an interval, the first of the narrowest.
+-- The tests in words; of the buckets that contain an interval, the first of the narrowest.
 pub mod ChoiceLaws
+mod BestLaws
+pub mod Choices
 mod Trials

@@ -15,9 +15,13 @@ module _ (p : Plan) (low high : ℕ) where
   unfoldable pub contains : ℕ → Bool
   contains j = le? (leftAt p j) low && le? high (rightAt p j)
 
-  -- it does, and no bucket that does is narrower
+  -- the bucket at place i contains it and is narrower than the one at place j
+  unfoldable pub narrower : ℕ → ℕ → Bool
+  narrower j i = contains i && lt? (widthAt p i) (widthAt p j)
+
+  -- the one at place j contains it, and none that does is narrower
   unfoldable pub narrowest : ℕ → Bool
-  narrowest j = contains j && not (anyTo (p .buckets) (λ i. contains i && lt? (widthAt p i) (widthAt p j)))
+  narrowest j = contains j && not (anyTo (p .buckets) (narrower j))
 
 -- the place of the bucket that is named for an interval under a plan; B where none is
 abbrev pub Choice : Type 0

@@ -10,7 +10,7 @@ use Rattle.plan.specs.Places.{eq?, unless, firstRefusal}
 use Rattle.plan.specs.Plan.{planRefusal}
 use Rattle.bucket_choice.specs.Choice.{Choice, chosenBucket, firstBucket}
 use Rattle.bucket_choice.specs.Chosen.{NamesContaining}
-use Rattle.bucket_choice.proofs.ChoiceLaws.{choice}
+use Rattle.bucket_choice.proofs.Choices.{choices}
 use Rattle.bucket_test.specs.Words.{wordsFit}
 use Rattle.bucket_test.specs.Answers.{lowOf, highOf, anyWide, firstThatFits, answerBy, answerOver, isEnding}
 use Rattle.bucket_test.specs.Draw.{Outcome, startState, beginRefusal, begunBy, begunOver, stateSound, drawRefusalOver, nextState, drawnBy, drawnOver, reportBy, reportOver}
@@ -94,4 +94,4 @@ any-choice p one other a b = record {
 }
 
 pub as-before : AsBeforeTheorem
-as-before p = any-choice p chosenBucket firstBucket (choice p .chosen-names) (choice p .first-names)
+as-before p = any-choice p chosenBucket firstBucket (choices p .chosen-names) (choices p .first-names)

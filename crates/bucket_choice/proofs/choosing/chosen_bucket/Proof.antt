@@ -5,7 +5,8 @@ use Prim.Native.Nat.{ℕ, suc, _-_, _≤_, _<_}
 use native.Mathlib.Omega.{arith}
 use borrow.Author.Needs.{needs}
 use Rattle.bucket_choice.specs.Choice.{contains}
-use Rattle.bucket_choice.proofs.ChoiceLaws.{contains-reads, Held, held-none, held-more, held-now, held-still, held-all}
+use Rattle.bucket_choice.proofs.ChoiceLaws.{contains-reads}
+use Rattle.bucket_choice.proofs.BestLaws.{Held, held-none, held-more, held-now, held-still, held-all}
 use Rattle.bucket_choice.proofs.choosing.chosen_bucket.Statement.{statement}
 use Rattle.bucket_choice.proofs.choosing.chosen_bucket.Tie as tie
 
@@ -72,7 +73,7 @@ loop-again c =
     let l = i .before .loop in (
       omega (arith, l .inv .0),
       held-now (a .t1) (a .low) (a .high) widest (c .before .width-of .result) (l .j - 1) (c .before .width-of .ensures) (turning i)
-          (omega (arith, l .inv .0, i .loop-test .taken)) (hit (c .before .before)) (c .if2 .taken),
+          (omega (arith, l .inv .0, i .loop-test .taken)) (hit (c .before .before)) (omega (arith, c .if2 .taken)),
     )
 
 loop-less-2 : tie.Need-loop-less-2 Inv-loop μ-loop
@@ -85,7 +86,7 @@ loop-again-2 c =
     let l = i .before .loop in (
       omega (arith, l .inv .0),
       held-still (a .t1) (a .low) (a .high) widest (c .before .width-of .result) (l .j - 1) (c .before .width-of .ensures) (turning i)
-          (omega (arith, c .before .width-of .ok)) (c .if2 .left),
+          (omega (arith, c .before .width-of .ok)) (omega (arith, c .if2 .left)),
     )
 
 loop-less-3 : tie.Need-loop-less-3 Inv-loop μ-loop
