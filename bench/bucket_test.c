@@ -153,8 +153,13 @@ static struct outcome answer_of(const struct plan *p, const struct state *s) {
     uint32_t low, high;
     interval(p, s, &low, &high);
     if (low > high) return outcome(CROSSED, 0);
+    uint32_t number = 0, width = 0;
     for (uint32_t j = 0; j < p->buckets; j++)
-        if (p->left[j] <= low && high <= p->right[j]) return outcome(DECIDED, j + 1);
+        if (p->left[j] <= low && high <= p->right[j] && (!number || p->right[j] - p->left[j] < width)) {
+            number = j + 1;
+            width = p->right[j] - p->left[j];
+        }
+    if (number) return outcome(DECIDED, number);
     for (uint32_t i = 0; i < p->count; i++)
         if (s->record[i].mark == OPEN_MARK && is_wide(&s->record[i])) return outcome(IS_WIDE, 0);
     return outcome(s->n == p->horizon ? SPENT : OPEN, 0);
