@@ -102,6 +102,11 @@ pub enum Slip {
     MassGoesOn,
     StaleBoundary,
     CrossedDecided,
+    /// Of the buckets that contain the interval another: the first in the plan's order, the widest, or the last of
+    /// equally narrow ones.
+    FirstInOrder,
+    Widest,
+    LastOfNarrowest,
 }
 
 /// `Quick` counts masses in 64 bits, which is faster; the build checks them for overflow.

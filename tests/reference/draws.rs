@@ -84,6 +84,10 @@ fn segments(rng: &mut Rng, length: usize) -> Vec<bool> {
     out
 }
 
+pub fn character(draw: bool) -> u8 {
+    if draw { b'1' } else { b'0' }
+}
+
 /// Draws as characters, with newlines in one of several ways.
 pub fn render(rng: &mut Rng, draws: &[bool]) -> Vec<u8> {
     let style = rng.below(6);
@@ -93,7 +97,7 @@ pub fn render(rng: &mut Rng, draws: &[bool]) -> Vec<u8> {
         out.extend(vec![b'\n'; rng.below(5) as usize]);
     }
     for (i, draw) in draws.iter().enumerate() {
-        out.push(if *draw { b'1' } else { b'0' });
+        out.push(character(*draw));
         let line_end = match style {
             2 => (i + 1) % width == 0,
             3 => rng.chance(1, 7),

@@ -2,7 +2,8 @@
 
 use crate::case::Feed::{Closed, Folder, Held, Pieces, Reset, Whole, WriteOnly};
 use crate::case::{Case, Feed, PlanFile};
-use crate::draft::{plan_f, two_buckets, Draft};
+use crate::draft::{plan_f, star_plan, two_buckets, Draft};
+use crate::host::{Record, Report, State, ABOVE, AT_MOST, CROSSED, DECIDED};
 
 pub struct Example {
     pub name: String,
@@ -53,6 +54,39 @@ pub fn widening_plan(horizon: u32) -> Draft {
     Draft { thresholds: vec![(500_000, 1)], delay: 1, horizon, buckets: two_buckets(500_000) }
 }
 
+/// Ones settle the second threshold; then its bucket is the narrower of the two that contain the interval.
+pub fn narrower_plan() -> Draft {
+    Draft {
+        thresholds: vec![(5000, 1), (10_000, 4_398_046_511)],
+        buckets: vec![(0, 10_000), (5000, 1_000_000), (10_000, 1_000_000)],
+        ..plan_f()
+    }
+}
+
+/// Draws by turns settle the two inner thresholds; then two equally wide buckets, behind a wider one, contain the
+/// interval.
+fn equally_narrow_plan() -> Draft {
+    let half = 2_199_023_255_551;
+    Draft {
+        thresholds: vec![(200_000, 1), (400_000, half), (600_000, half), (800_000, 1)],
+        delay: 1,
+        buckets: vec![(200_000, 800_000), (0, 400_000), (200_000, 600_000), (400_000, 800_000), (600_000, 1_000_000)],
+        ..plan_f()
+    }
+}
+
+/// Each bucket within another.
+fn nested_plan() -> Draft {
+    let buckets = vec![(0, 50_000), (0, 10_000), (10_000, 1_000_000), (50_000, 1_000_000)];
+    Draft { buckets, ..gap_plan() }
+}
+
+/// Equally wide buckets behind a wider one, and one of them twice.
+fn even_plan() -> Draft {
+    let buckets = vec![(0, 40_000), (30_000, 1_000_000), (20_000, 40_000), (0, 20_000), (10_000, 30_000), (0, 20_000)];
+    Draft { buckets, ..with_thresholds(&[10_000, 20_000, 30_000, 40_000], 1) }
+}
+
 fn f() -> PlanFile {
     PlanFile::of(&plan_f())
 }
@@ -90,7 +124,7 @@ const TURN_ABOUT: [u8; 800] = zeros_then(0, b"10");
 /// Its name, the plan, the input, how that is fed, and the line.
 type Row = (&'static str, fn() -> PlanFile, &'static [u8], Feed, &'static str);
 
-const ROWS: [Row; 41] = [
+const ROWS: [Row; 44] = [
     ("plan F, 11111", f, b"11111", Whole, "decided 2 5 5 50000 1000000\n"),
     ("plan F, 11111 and a newline", f, b"11111\n", Whole, "decided 2 5 5 50000 1000000\n"),
     ("plan F, newlines between", f, b"\n1\n\n1\n1\n1\n1", Whole, "decided 2 5 5 50000 1000000\n"),
@@ -129,6 +163,9 @@ const ROWS: [Row; 41] = [
     ("10,000 above, 50,000 open (P7)", crossing, b"11", Whole, "open 0 2 2 10000 1000000\n"),
     ("10,000 at most, 50,000 open", crossing, &zeros_then::<97>(80, b"1"), Whole, "open 0 97 17 0 10000\n"),
     ("10,000 at most, 50,000 above (P8)", crossing, &zeros_then::<120>(80, b"1"), Whole, "crossed 0 98 18 50000 10000\n"),
+    ("the narrower of two", || PlanFile::of(&narrower_plan()), b"111", Whole, "decided 3 3 3 10000 1000000\n"),
+    ("one draw before", || PlanFile::of(&narrower_plan()), b"11", Whole, "open 0 2 2 0 1000000\n"),
+    ("equally narrow", || PlanFile::of(&equally_narrow_plan()), &TURN_ABOUT, Whole, "decided 3 24 12 400000 600000\n"),
     ("wide at step 768", || PlanFile::of(&widening_plan(50_000)), &TURN_ABOUT, Whole, "wide 0 768 384 0 1000000\n"),
     ("wide before spent", || PlanFile::of(&widening_plan(768)), &TURN_ABOUT, Whole, "wide 0 768 384 0 1000000\n"),
     ("spent before wide", || PlanFile::of(&widening_plan(767)), &TURN_ABOUT, Whole, "spent 0 767 384 0 1000000\n"),
@@ -165,6 +202,52 @@ pub const CLOSE: [(&[u32], u64, u32); 22] = [
     (&[999_899, 999_999], 1, 0),
     (&[100, 200, 300, 400, 500, 600, 700, 800, 900, 999], 1, 14),
 ];
+
+/// A plan, the marks of its thresholds, the interval, and its bucket's number, 0 where it is crossed; then the number
+/// by the plan's order alone.
+type Marked = (fn() -> Draft, &'static str, (u32, u32), u32, u32);
+
+/// Above is +, at most -.
+pub const MARKED: [Marked; 21] = [
+    (nested_plan, "--", (0, 10_000), 2, 1),
+    (nested_plan, "++", (50_000, 1_000_000), 4, 3),
+    (nested_plan, "+-", (10_000, 50_000), 1, 1),
+    (nested_plan, "-+", (50_000, 10_000), 0, 0),
+    (even_plan, "----", (0, 10_000), 4, 1),
+    (even_plan, "+---", (10_000, 20_000), 4, 1),
+    (even_plan, "++--", (20_000, 30_000), 3, 1),
+    (even_plan, "+.-.", (10_000, 30_000), 5, 1),
+    (even_plan, ".+.-", (20_000, 40_000), 3, 1),
+    (even_plan, "+++-", (30_000, 40_000), 3, 1),
+    (even_plan, "++++", (40_000, 1_000_000), 2, 2),
+    (star_plan, "---------", (0, 500), 1, 1),
+    (star_plan, "+--------", (500, 1000), 1, 1),
+    (star_plan, "++-------", (1000, 2000), 5, 2),
+    (star_plan, "+++------", (2000, 8000), 2, 2),
+    (star_plan, "++++-----", (8000, 10_000), 6, 2),
+    (star_plan, "+++++----", (10_000, 12_000), 6, 3),
+    (star_plan, "++++++---", (12_000, 45_000), 3, 3),
+    (star_plan, "+++++++--", (45_000, 50_000), 7, 3),
+    (star_plan, "++++++++-", (50_000, 55_000), 7, 4),
+    (star_plan, "+++++++++", (55_000, 1_000_000), 4, 4),
+];
+
+/// A state with such marks, and the answer to it.
+pub fn marked_state(marks: &str) -> State {
+    let mut state = State { n: 10, ones: 1, ..State::default() };
+    for (record, mark) in state.records.iter_mut().zip(marks.chars()) {
+        *record = match mark {
+            '+' => Record { mark: ABOVE, step: 1, ..Record::default() },
+            '-' => Record { mark: AT_MOST, step: 1, ..Record::default() },
+            _ => Record::default(),
+        };
+    }
+    state
+}
+
+pub fn marked_report((low, high): (u32, u32), number: u32) -> Report {
+    Report { answer: if number == 0 { CROSSED } else { DECIDED }, number, low, high }
+}
 
 fn close_example((thresholds, allowance, number): (&[u32], u64, u32)) -> Example {
     let plan = PlanFile::of(&with_thresholds(thresholds, allowance));

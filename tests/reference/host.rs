@@ -1,6 +1,7 @@
 //! The library's entries, by way of the crate `host`.
 
 use crate::draft::Draft;
+use crate::plan::Bucket;
 
 /// Any plan; `refusal` is that of a reading.
 #[repr(C)]
@@ -15,6 +16,14 @@ pub struct Plan {
     pub allowances: [u64; 10],
     pub left: [u32; 16],
     pub right: [u32; 16],
+}
+
+impl Plan {
+    /// What stands in a place, counted or not.
+    pub fn bucket(&self, place: u32) -> Bucket {
+        let of = |ends: &[u32; 16]| ends[place as usize] as u128;
+        Bucket { left: of(&self.left), right: of(&self.right) }
+    }
 }
 
 pub const OPEN: u32 = 0;

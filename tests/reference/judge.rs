@@ -1,9 +1,10 @@
 //! What the rules settle of one call, for any plan, state, words and draw. Spending and walk are its own, to be
 //! independent of `boundary`.
 
+use crate::choices::Choice;
 use crate::host::{draft_of, Plan, Record, Report, State};
 use crate::host::{ABOVE, AT_MOST, CROSSED, DECIDED, OPEN, REFUSED, SPENT, WIDE};
-use crate::plan::{read, Bucket, MILLION, WHOLE};
+use crate::plan::{read, MILLION, WHOLE};
 
 /// Words of a part.
 pub const PART: usize = 769;
@@ -46,6 +47,8 @@ pub enum Fault {
     SettledCleared,
     MarkOfStepBefore,
     RefusalCounts,
+    /// Another choice among the buckets.
+    Choice(Choice),
 }
 
 pub fn plan_refusal(p: &Plan) -> u32 {
@@ -63,18 +66,27 @@ fn apart(r: &Record) -> i128 {
     r.upper as i128 - r.lower as i128
 }
 
+/// The number of the narrowest bucket that contains the interval, the first of equally narrow ones.
+fn narrowest(p: &Plan, low: u32, high: u32) -> Option<u32> {
+    let contains = |place: &u32| p.bucket(*place).contains(low as u128, high as u128);
+    let narrowest = (0..p.buckets).filter(contains).min_by_key(|place| (p.bucket(*place).width(), *place));
+    narrowest.map(|place| place + 1)
+}
+
 /// The answer rule with its interval, put to any state under an accepted plan.
-fn answer(p: &Plan, s: &State) -> Report {
+fn answer(p: &Plan, s: &State, fault: Fault) -> Report {
     let k = p.count as usize;
     let marked = |mark: u32| (0..k).filter(move |i| s.records[*i].mark == mark).map(|i| p.thresholds[i]);
     let low = marked(ABOVE).max().unwrap_or(0);
     let high = marked(AT_MOST).min().unwrap_or(MILLION as u32);
-    let buckets = (0..p.buckets as usize).map(|j| Bucket { left: p.left[j] as u128, right: p.right[j] as u128 });
-    let first = buckets.into_iter().position(|b| b.contains(low as u128, high as u128));
+    let (crossed, bucket) = match fault {
+        Fault::Choice(choice) => (low > high && !choice.passes_crossed(), choice.number(p, low, high)),
+        _ => (low > high, narrowest(p, low, high)),
+    };
     let wide = (0..k).any(|i| s.records[i].mark == OPEN && apart(&s.records[i]) - 1 == PART as i128);
-    let (answer, number) = match first {
-        _ if low > high => (CROSSED, 0),
-        Some(place) => (DECIDED, place as u32 + 1),
+    let (answer, number) = match bucket {
+        _ if crossed => (CROSSED, 0),
+        Some(number) => (DECIDED, number),
         None if wide => (WIDE, 0),
         None if s.n == p.horizon => (SPENT, 0),
         None => (OPEN, 0),
@@ -83,9 +95,9 @@ fn answer(p: &Plan, s: &State) -> Report {
 }
 
 /// The answer to a state as it stands; a refused plan has no interval.
-pub fn report_on(p: &Plan, s: &State) -> Report {
+pub fn report_on(p: &Plan, s: &State, fault: Fault) -> Report {
     match plan_refusal(p) {
-        0 => answer(p, s),
+        0 => answer(p, s, fault),
         number => Report { answer: REFUSED, number, low: 0, high: 0 },
     }
 }
@@ -182,7 +194,7 @@ fn draw_refusal(p: &Plan, s: &State, words: &[u64], d: u8, fault: Fault) -> u32 
     }
     let eight = words.len() != PART * p.count as usize;
     let nine = d > 1;
-    let ten = || answer(p, s).answer != OPEN;
+    let ten = || answer(p, s, fault).answer != OPEN;
     let eleven = || spoiled(p, s, words, fault);
     match fault {
         Fault::NineBeforeEight if nine => 9,
@@ -230,7 +242,7 @@ pub fn draw(p: &Plan, s: &State, words: &mut [u64], d: u8, fault: Fault) -> Stat
     if fault == Fault::PastCleared {
         next.records[p.count as usize..].fill(Record::default());
     }
-    let settled = answer(p, &next);
+    let settled = answer(p, &next, fault);
     State { answer: settled.answer, number: settled.number, ..next }
 }
 
@@ -250,6 +262,6 @@ pub fn begin(p: &Plan, words: &mut [u64]) -> State {
         *word = if i % PART == 0 { WHOLE as u64 } else { 0 };
     }
     let state = State { records: [FIRST; 10], ..State::default() };
-    let settled = answer(p, &state);
+    let settled = answer(p, &state, Fault::None);
     State { answer: settled.answer, number: settled.number, ..state }
 }

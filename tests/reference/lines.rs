@@ -1,6 +1,7 @@
 //! The program's lines: what each run must print, what came up, and what differs.
 
 use crate::case::{Case, PlanFile};
+use crate::decided::{Decided, MET, OTHER_ENDS};
 use crate::plan::{read, Plan};
 use crate::tally::{join, named, sized, Counts};
 use std::fs;
@@ -16,6 +17,9 @@ const CLOSE: [(&str, u64, fn(&Plan) -> bool); 3] = [
     ("the closest 101 apart", 300, |p| p.closest() == Some(101)),
     ("ten, each 100 apart", 15, |p| p.thresholds.len() == 10 && p.thresholds[9].at - p.thresholds[0].at == 900),
 ];
+
+/// Of the random runs that are decided, how many must come to each row of `MET` but the rare one.
+const MET_NEEDED: u64 = 100;
 
 /// Runs that must print each refusal.
 const REFUSED_NEEDED: u64 = 100;
@@ -56,6 +60,7 @@ pub struct Tally {
     pub thresholds: Counts<u64>,
     pub buckets: Counts<u64>,
     pub close: Counts<&'static str>,
+    pub met: Counts<&'static str>,
     pub random: u64,
     pub damaged: u64,
     pub examples: u64,
@@ -73,6 +78,7 @@ impl Tally {
         join(&mut self.thresholds, other.thresholds);
         join(&mut self.buckets, other.buckets);
         join(&mut self.close, other.close);
+        join(&mut self.met, other.met);
         self.random += other.random;
         self.damaged += other.damaged;
         self.examples += other.examples;
@@ -81,6 +87,15 @@ impl Tally {
         self.longest = self.longest.max(other.longest);
         self.mismatches.extend(other.mismatches);
         self.count_mismatches += other.count_mismatches;
+    }
+
+    /// Takes in the buckets of a decided line.
+    fn note_decided(&mut self, plan: &Plan, line: &str) {
+        let numbers: Vec<u128> = line.split_whitespace().filter_map(|word| word.parse().ok()).collect();
+        let decided = Decided::of(&plan.buckets, numbers[3], numbers[4], numbers[0] as usize);
+        for (name, is) in MET {
+            *self.met.entry(name).or_default() += is(&decided) as u64;
+        }
     }
 
     /// Takes in one expected line.
@@ -105,6 +120,9 @@ impl Tally {
                     for (name, _, _) in CLOSE.iter().filter(|(_, _, is)| is(&plan)) {
                         *self.close.entry(name).or_default() += 1;
                     }
+                    if line.starts_with("decided") {
+                        self.note_decided(&plan, line);
+                    }
                 }
             }
             "damaged" => self.damaged += 1,
@@ -128,6 +146,7 @@ impl Tally {
         println!("random plans by thresholds: {}", sized(&self.thresholds));
         println!("random plans by buckets: {}", sized(&self.buckets));
         println!("random plans with close thresholds: {}", named(&self.close));
+        println!("random runs decided, their bucket: {}", named(&self.met));
         println!("by kind: {}", named(&self.kinds));
     }
 
@@ -147,6 +166,9 @@ impl Tally {
         }
         let seldom = CLOSE.iter().filter(|(name, needed, _)| self.close.get(name).copied().unwrap_or(0) < *needed);
         out.extend(seldom.map(|(name, _, _)| format!("few random plans with thresholds: {name}")));
+        let often = MET.map(|(name, _)| name).into_iter().filter(|name| *name != OTHER_ENDS);
+        let seldom = often.filter(|name| self.met.get(name).copied().unwrap_or(0) < MET_NEEDED);
+        out.extend(seldom.map(|name| format!("few random runs decided, their bucket: {name}")));
         out
     }
 

@@ -1,14 +1,17 @@
 //! A separately written bucket test and p-value by counting, and what compares them with a program and the library.
 
+mod agreement;
 mod any_plan;
 mod big;
 mod boundary;
 mod case;
+mod choices;
 mod close;
 mod compare;
 mod counting;
 mod damage;
 mod damaged;
+mod decided;
 mod draft;
 mod draws;
 mod exact;
@@ -21,8 +24,10 @@ mod lapses;
 mod limits;
 mod lines;
 mod met;
+mod narrower;
 mod orders;
 mod outcomes;
+mod overlap;
 mod plan;
 mod random;
 mod rng;
@@ -47,6 +52,7 @@ const USAGE: &str = "usage: reference COMMAND
                         the program against the reference
   counting [--seed N]   the library's runs that count to a p-value, and their shares over all orders
   gandy [--seed N]      the library's boundaries and the mean draws beside the published ones
+  narrower [--seed N]   the library's bucket where several contain the interval, against the reference
   spoiled [--seed N]    the library's entries on spoiled states, against the reference";
 
 const SEED: u64 = 20_251;
@@ -93,6 +99,7 @@ fn main() {
         "compare" => compare_program(words),
         "counting" => counting::run(seed()),
         "gandy" => gandy::run(seed()),
+        "narrower" => narrower::run(seed()),
         "spoiled" => spoiled::run(seed()),
         other => usage(&format!("{other}: no such command")),
     };

@@ -60,6 +60,10 @@ impl Bucket {
     pub fn contains(&self, low: u128, high: u128) -> bool {
         self.left <= low && high <= self.right
     }
+
+    pub fn width(&self) -> u128 {
+        self.right - self.left
+    }
 }
 
 impl Plan {

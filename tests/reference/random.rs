@@ -4,9 +4,10 @@ use crate::any_plan::{any_horizon, any_plan, buckets};
 use crate::case::{Case, Feed, PlanFile};
 use crate::draft::{star_plan, two_buckets, Draft};
 use crate::draws::{chosen, draws, near, render, steer, Style};
+use crate::overlap::overlapping_run;
 use crate::plan::{LARGEST_ALLOWANCE, LEAST_APART};
 use crate::rng::Rng;
-use crate::sequential::Mark;
+use crate::sequential::{program, Mark};
 
 /// How many of each; the long ones first.
 pub const HORIZON_RUNS: u64 = 6;
@@ -15,10 +16,11 @@ pub const LONG_RUNS: u64 = 430;
 pub const WIDE_RUNS: u64 = 60;
 pub const CROSSED_RUNS: u64 = 300;
 pub const ROUNDING_RUNS: u64 = 300;
+pub const OVERLAP_RUNS: u64 = 400;
 pub const SHORT_RUNS: u64 = 4300;
 /// The place of the first of the crossed ones.
 pub const CROSSED_FROM: u64 = HORIZON_RUNS + LONGER_RUNS + LONG_RUNS + WIDE_RUNS;
-pub const RANDOM_RUNS: u64 = CROSSED_FROM + CROSSED_RUNS + ROUNDING_RUNS + SHORT_RUNS;
+pub const RANDOM_RUNS: u64 = CROSSED_FROM + CROSSED_RUNS + ROUNDING_RUNS + OVERLAP_RUNS + SHORT_RUNS;
 
 fn case(rng: &mut Rng, kind: &'static str, draft: &Draft, draws: &[bool]) -> Case {
     let input = render(rng, draws);
@@ -177,6 +179,11 @@ fn rounding_run(rng: &mut Rng) -> Case {
     case(rng, "rounding", &draft, &draws)
 }
 
+fn overlap_run(rng: &mut Rng) -> Case {
+    let (draft, draws) = overlapping_run(rng);
+    case(rng, "overlap", &draft, &draws)
+}
+
 fn short_run(rng: &mut Rng, place: u64) -> Case {
     let least = rng.pick(&[1, 1, 1000]);
     let length = if place % 5 == 0 { rng.scale(1, 700) } else { rng.scale(1, 160) };
@@ -185,7 +192,7 @@ fn short_run(rng: &mut Rng, place: u64) -> Case {
     let draws = draws(rng, &draft, length as usize);
     let mut out = case(rng, "random", &draft, &draws);
     if rng.chance(1, 40) {
-        let line = crate::sequential::program(out.plan.bytes(), &out.input);
+        let line = program(out.plan.bytes(), &out.input);
         if !line.starts_with("open") {
             out.feed = Feed::Held;
         }
@@ -215,6 +222,8 @@ pub fn random_case(seed: u64, place: u64) -> Case {
         crossed_run(rng)
     } else if within(ROUNDING_RUNS) {
         rounding_run(rng)
+    } else if within(OVERLAP_RUNS) {
+        overlap_run(rng)
     } else {
         short_run(rng, rest)
     }

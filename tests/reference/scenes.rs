@@ -97,21 +97,26 @@ fn made_up_record(rng: &mut Rng, s: &State, limit: u64, part: &mut [u64]) -> Rec
 
 /// A state that no test was carried to, but that passes refusal 11.
 pub fn made_up(rng: &mut Rng, plan: Plan) -> Scene {
+    let settled = rng.pick(&[0, 1, 3]);
+    let marks = [OPEN; 10].map(|open| if rng.chance(settled, 6) { rng.pick(&[ABOVE, AT_MOST]) } else { open });
+    made_up_with(rng, plan, &marks)
+}
+
+/// One with given marks; before the first draw all are open.
+pub fn made_up_with(rng: &mut Rng, plan: Plan, marks: &[u32; 10]) -> Scene {
     let last = plan.horizon as u64 - 1;
     let n = if rng.chance(1, 4) { last } else { rng.range(0, last) };
     let ones = rng.pick(&[0, n, n / 2, n / 2]);
     let mut state = State { n: n as u32, ones: ones as u32, ..State::default() };
     let mut words = vec![0; PART * plan.count as usize];
-    let settled = rng.pick(&[0, 1, 3]);
     for i in 0..10 {
         let limit = spending(&plan, i, state.n) as u64;
         state.records[i] = match i < plan.count as usize {
             true => made_up_record(rng, &state, limit, &mut words[PART * i..PART * (i + 1)]),
             false => garbage(rng),
         };
-        if i < plan.count as usize && n > 0 && rng.chance(settled, 6) {
-            let (mark, step) = (rng.pick(&[ABOVE, AT_MOST]), rng.range(1, n) as u32);
-            state.records[i] = Record { mark, step, ..garbage(rng) };
+        if i < plan.count as usize && n > 0 && marks[i] != OPEN {
+            state.records[i] = Record { mark: marks[i], step: rng.range(1, n) as u32, ..garbage(rng) };
         }
     }
     Scene { plan, state, words, draw: rng.below(2) as u8 }

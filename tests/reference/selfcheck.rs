@@ -1,10 +1,11 @@
 //! The reference held to the rules' own examples and facts; no program is needed.
 
+use crate::agreement;
 use crate::boundary::{spending, Literal, Quick, Slip, WIDE};
 use crate::case::{Case, Feed};
 use crate::damaged::{damaged_case, DAMAGED_RUNS};
 use crate::draft::{plan_f, star_plan, Draft};
-use crate::examples::{self, gap_plan, half_allowance_plan, largest_plan};
+use crate::examples::{self, gap_plan, half_allowance_plan, largest_plan, narrower_plan};
 use crate::host::Record;
 use crate::judge::{self, Fault};
 use crate::lapses::{lapses, Judged, Lapse};
@@ -55,6 +56,10 @@ fn marked(thresholds: Vec<(u32, u64)>, buckets: Vec<(u32, u32)>, marks: &[Mark])
     (test.interval(), test.answer())
 }
 
+/// Its thresholds 5,000 and 10,000, its buckets up to the second, above the first and above the second.
+const NARROWER_PLAN: &str = "0200030010002800e8030000c8000000881300000100000000000000102700002fdd240601000000\
+                             00000000102700008813000040420f001027000040420f00";
+
 fn numbered(report: &mut Report) {
     let thousandth = 4_398_046_511;
     report.check("P1", spending(thousandth, 1000, 1) == 4_393_652);
@@ -88,6 +93,8 @@ fn numbered(report: &mut Report) {
     report.check("draw 1 to an ended test: 10", ended.take(1) == Err(10));
     let largest = largest_plan();
     report.check("the largest plan is 264 bytes", largest.store().len() == 264 && read(&largest.store()).is_ok());
+    let hex: String = narrower_plan().store().iter().map(|byte| format!("{byte:02x}")).collect();
+    report.check("the plan of overlapping buckets by its bytes", hex == NARROWER_PLAN);
     report.check("the star plan keeps the rules", read(&star_plan().store()).is_ok());
 }
 
@@ -195,7 +202,7 @@ fn chances(report: &mut Report, seed: u64) {
 }
 
 /// Runs in which each known mistake is looked for, and in how many it must change the line.
-const MISTAKEN_RUNS: u64 = 1200;
+const MISTAKEN_RUNS: u64 = 1600;
 const SHOWN: u64 = 100;
 /// The same of mistakes on thresholds too close, in the damaged runs.
 const LAPSE_SHOWN: u64 = 50;
@@ -209,6 +216,9 @@ fn mistakes(report: &mut Report, seed: u64) {
         Slip::MassGoesOn,
         Slip::StaleBoundary,
         Slip::CrossedDecided,
+        Slip::FirstInOrder,
+        Slip::Widest,
+        Slip::LastOfNarrowest,
     ];
     let mut shown: Counts<String> = Counts::new();
     for place in CROSSED_FROM..CROSSED_FROM + MISTAKEN_RUNS {
@@ -267,6 +277,7 @@ pub fn run(seed: u64) -> bool {
     facts(&mut report, seed);
     chances(&mut report, seed);
     crossings(&mut report, seed);
+    agreement::checks(seed).iter().for_each(|(name, good)| report.check(name, *good));
     mistakes(&mut report, seed);
     lapses_shown(&mut report, seed);
     println!("check: {} passed, {} failed, {:.1} s", report.passed, report.failed, began.elapsed().as_secs_f64());

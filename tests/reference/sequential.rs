@@ -1,7 +1,7 @@
 //! The sequential test over a plan, and the program's line.
 
 use crate::boundary::{Literal, Quick, Slip, WIDE};
-use crate::plan::{read, Plan, MILLION};
+use crate::plan::{read, Bucket, Plan, MILLION};
 
 #[derive(Clone, Copy, Debug, PartialEq)]
 pub enum Mark {
@@ -114,12 +114,30 @@ impl<'a> Test<'a> {
         self.interval_of(&self.marks)
     }
 
+    /// Does a bucket among those that contain the interval keep the rule: none of them is narrower, and none that
+    /// comes earlier is as narrow?
+    fn chosen(&self, (place, bucket): &(usize, &Bucket), containing: &[(usize, &Bucket)]) -> bool {
+        containing.iter().all(|(other, b)| match self.slip {
+            Slip::FirstInOrder => place <= other,
+            Slip::Widest => bucket.width() >= b.width(),
+            Slip::LastOfNarrowest => bucket.width() < b.width() || bucket.width() == b.width() && place >= other,
+            _ => bucket.width() <= b.width() && (place <= other || bucket.width() != b.width()),
+        })
+    }
+
+    /// The place of the bucket, from 0.
+    fn bucket(&self, low: u128, high: u128) -> Option<usize> {
+        let every = self.plan.buckets.iter().enumerate();
+        let containing: Vec<(usize, &Bucket)> = every.filter(|(_, b)| b.contains(low, high)).collect();
+        containing.iter().find(|one| self.chosen(one, &containing)).map(|(place, _)| *place)
+    }
+
     fn judge(&self, marks: &[Mark], draws: u64) -> Answer {
         let (low, high) = self.interval_of(marks);
         if low > high && self.slip != Slip::CrossedDecided {
             return Answer::Crossed;
         }
-        if let Some(place) = self.plan.buckets.iter().position(|b| b.contains(low, high)) {
+        if let Some(place) = self.bucket(low, high) {
             return Answer::Decided(place + 1);
         }
         let wide = |b: &Quick| b.upper - b.lower - 1 == WIDE;

@@ -58,7 +58,8 @@ fn compare_begin(tally: &mut Tally, scene: &Scene) -> (State, Vec<u64>) {
 }
 
 fn compare_report(tally: &mut Tally, scene: &Scene) {
-    let (got, expected) = (host::report_on(scene.plan, scene.state), judge::report_on(&scene.plan, &scene.state));
+    let got = host::report_on(scene.plan, scene.state);
+    let expected = judge::report_on(&scene.plan, &scene.state, Fault::None);
     let show = || format!("{got:?} for {expected:?}: {:?} {:?}", scene.plan, scene.state);
     tally.note("report_on", kind(got.answer, got.number), got == expected, show);
     let (got, expected) = (host::plan_refusal(scene.plan), judge::plan_refusal(&scene.plan));
