@@ -94,7 +94,7 @@ module _ (p q : Plan) (buckets : q .buckets ≡ p .buckets)
   contains-same j l = let e = ends j (omega arith) in rw (e .0, e .1)
 
   width-same : (j : ℕ) → j < q .buckets → widthAt q j ≡ widthAt p j
-  width-same j l = let e = ends j (omega arith) in rw (e .0, e .1)
+  width-same j l = let e = ends j (omega arith) in omega (arith, e .0, e .1)
 
   narrower-same : (j i : ℕ) → j < q .buckets → i < q .buckets → narrower q low high j i ≡ narrower p low high j i
   unfolding narrower

@@ -8,9 +8,6 @@ ghost use Rattle.walk.specs.Numbers.{le?};
 ghost use Rattle.plan.specs.Plan.{bucketLimit};
 ghost use Rattle.bucket_choice.specs.Choice.{chosenBucket};
 
-// No bucket is wider.
-const WIDEST: u32 = 0xFFFFFFFF;
-
 // A bucket from left to right contains the interval.
 fn contains(left: u32, right: u32, low: u32, high: u32) -> bool
     ensures { λ r. ⌜ r ≡ (le? left low && le? high right) ⌝ }
@@ -29,25 +26,26 @@ fn width_of(left: u32, right: u32) -> u32
     right - left
 }
 
-// Its place, or the number of buckets where none contains the interval. From the last bucket to the first, so that of equally narrow ones
-// the first is held at the end.
+// Its place, or the number of buckets where none contains the interval.
 pub fn chosen_bucket(p: Plan, low: u32, high: u32) -> u32
     requires { ⌜ (p .buckets ≤ bucketLimit) × (low ≤ high) ⌝ }
     ensures { λ r. ⌜ r ≡ chosenBucket p low high ⌝ }
 {
+    let lefts = p.left;
+    let rights = p.right;
     let mut place = p.buckets;
-    let mut least = WIDEST;
-    let mut j = p.buckets;
-    while j > 0 {
-        j -= 1;
+    for j in 0..p.buckets {
         let at = j as usize;
-        let left = p.left[at];
-        let right = p.right[at];
+        let left = lefts[at];
+        let right = rights[at];
         if contains(left, right, low, high) {
-            let width = width_of(left, right);
-            if width <= least {
+            if place == p.buckets {
                 place = j;
-                least = width;
+            } else {
+                let held = place as usize;
+                if width_of(left, right) < width_of(lefts[held], rights[held]) {
+                    place = j;
+                }
             }
         }
     }

@@ -1,108 +1,119 @@
--- Each turn looks at one place more, from the last to the first.
+-- Each turn looks at one place more, in plan order.
 use mathlib.Core.Path.{_≡_, sym, _∙_}
 use mathlib.Core.Bool.{true, false}
-use Prim.Native.Nat.{ℕ, suc, _-_, _≤_, _<_}
+use mathlib.Core.Logic.{⊎-elim}
+use Prim.Native.Nat.{ℕ, _+_, _-_, _≤_, _<_}
+use native.Mathlib.Numerals.{add-one}
 use native.Mathlib.Omega.{arith}
 use borrow.Author.Needs.{needs}
+use Rattle.plan.specs.Plan.{leftAt, rightAt}
 use Rattle.bucket_choice.specs.Choice.{contains}
-use Rattle.bucket_choice.proofs.ChoiceLaws.{contains-reads}
-use Rattle.bucket_choice.proofs.BestLaws.{Held, held-none, held-more, held-now, held-still, held-all}
+use Rattle.bucket_choice.specs.Chosen.{Contains}
+use Rattle.bucket_choice.proofs.ChoiceLaws.{contains-says}
+use Rattle.bucket_choice.proofs.BestLaws.{Held, held-none, held-all, held-contains, held-more, held-first, held-now, held-still}
 use Rattle.bucket_choice.proofs.choosing.chosen_bucket.Statement.{statement}
 use Rattle.bucket_choice.proofs.choosing.chosen_bucket.Tie as tie
 
-abbrev widest : ℕ
-widest = 4294967295
-
 abbrev Inv-loop : tie.InvT-loop
-Inv-loop low high p place₀ least₀ j₀ place least j = (j ≤ p .buckets) × Held p low high widest j place least
+Inv-loop p low high lefts rights place₀ j₀ j-end place j = (j ≤ p .buckets) × Held p low high j place
 
 abbrev μ-loop : tie.MeasureT-loop
-μ-loop low high p place₀ least₀ j₀ place least j = j
+μ-loop p low high lefts rights place₀ j₀ j-end place j = p .buckets - j
 
 loop-holds : tie.Need-loop-holds Inv-loop μ-loop
-loop-holds c = (omega arith, held-none (c .args .t1) (c .args .low) (c .args .high) widest)
-
-sub-j : tie.Need-sub-j Inv-loop μ-loop
-sub-j c = search needs
+loop-holds c = let a = c .before .before .args in (omega arith, held-none (a .p) (a .low) (a .high))
 
 cast-at : tie.Need-cast-at Inv-loop μ-loop
-cast-at c = omega (arith, c .before .loop .inv .0, c .before .before .pre .0)
+cast-at c = omega (arith, c .before .before .before .before .pre .0)
 
 mul-left : tie.Need-mul-left Inv-loop μ-loop
-mul-left c = omega (arith, c .before .loop .inv .0, c .before .before .pre .0)
+mul-left c = omega (arith, c .loop-test .taken, c .before .before .before .before .pre .0)
 
-element-copy-out-left : tie.Need-element-copy-out-left Inv-loop μ-loop
-element-copy-out-left c = omega (arith, c .before .loop .inv .0, c .before .before .pre .0)
+array-read-left : tie.Need-array-read-left Inv-loop μ-loop
+array-read-left c = omega (arith, c .loop-test .taken, c .before .before .before .before .pre .0)
 
 mul-right : tie.Need-mul-right Inv-loop μ-loop
-mul-right c = omega (arith, c .before .before .loop .inv .0, c .before .before .before .pre .0)
+mul-right c = omega (arith, c .loop-test .taken, c .before .before .before .before .pre .0)
 
-element-copy-out-right : tie.Need-element-copy-out-right Inv-loop μ-loop
-element-copy-out-right c = omega (arith, c .before .before .loop .inv .0, c .before .before .before .pre .0)
+array-read-right : tie.Need-array-read-right Inv-loop μ-loop
+array-read-right c = omega (arith, c .loop-test .taken, c .before .before .before .before .pre .0)
 
 contains-requires : tie.Need-contains-requires Inv-loop μ-loop
 contains-requires c κs = search needs
 
--- the place that this turn looks at is before the places already looked at
-turning : (c : tie.In-loop Inv-loop μ-loop) → let a = c .before .before .args in let l = c .before .loop in Held (a .t1) (a .low) (a .high) widest (suc (l .j - 1)) (l .place) (l .least)
-turning c = let l = c .before .loop in let z : suc (l .j - 1) ≡ l .j = omega (arith, c .loop-test .taken) in rw z (l .inv .1)
-
--- the bucket there contains the interval
-hit : (c : tie.Then1 Inv-loop μ-loop) → let i = c .before .before .before .before in let a = i .before .before .args in contains (a .t1) (a .low) (a .high) (i .before .loop .j - 1) ≡ true
+-- the bucket that this turn looks at contains the interval, or does not
+hit : (c : tie.After-contains Inv-loop μ-loop) → c .contains .result ≡ true
+    → let a = c .before .before .before .before .before .args in Contains (a .p) (a .low) (a .high) (c .before .before .loop .j)
 unfolding contains
-hit c = sym (c .before .contains .ensures) ∙ c .if1 .taken
+hit c t =
+    let a = c .before .before .before .before .before .args in
+    contains-says (a .p) (a .low) (a .high) (c .before .before .loop .j) (c .before .loop-test .taken) (sym (c .contains .ensures) ∙ t)
 
--- .. or does not
-miss : (c : tie.Else1 Inv-loop μ-loop) → let i = c .before .before .before .before in let a = i .before .before .args in contains (a .t1) (a .low) (a .high) (i .before .loop .j - 1) ≡ false
+miss : (c : tie.After-contains Inv-loop μ-loop) → c .contains .result ≡ false
+    → let a = c .before .before .before .before .before .args in contains (a .p) (a .low) (a .high) (c .before .before .loop .j) ≡ false
 unfolding contains
-miss c = sym (c .before .contains .ensures) ∙ c .if1 .left
+miss c t = sym (c .contains .ensures) ∙ t
+
+-- the one held does
+held : (c : tie.Else2 Inv-loop μ-loop) → let a = c .before .before .before .before .before .before .before .before .args in
+    Contains (a .p) (a .low) (a .high) (c .before .before .before .before .before .loop .place)
+held c =
+    let a = c .before .before .before .before .before .before .before .before .args in
+    held-contains (a .p) (a .low) (a .high) (c .before .before .before .before .before .loop .inv .1) (c .if2 .left)
+
+cast-held : tie.Need-cast-held Inv-loop μ-loop
+cast-held c = omega (arith, held c .inside, c .before .before .before .before .before .before .before .before .pre .0)
 
 width-of-requires : tie.Need-width-of-requires Inv-loop μ-loop
 width-of-requires c κs =
-    let s = c .before .before .before .before .before .before in
-    let h = contains-reads (s .args .t1) (s .args .low) (s .args .high) (c .before .before .before .before .before .loop .j - 1) .0 (hit c) in
-    omega (arith, h .0, h .1, s .pre .1)
+    let h = hit (c .before .before .before) (c .before .before .if1 .taken) in
+    omega (arith, h .left-fits, h .right-fits, c .before .before .before .before .before .before .before .before .pre .1)
+
+mul-width-of : tie.Need-mul-width-of Inv-loop μ-loop
+mul-width-of c = omega (arith, held (c .before) .inside, c .before .before .before .before .before .before .before .before .before .pre .0)
+
+array-read-width-of : tie.Need-array-read-width-of Inv-loop μ-loop
+array-read-width-of c = omega (arith, held (c .before) .inside, c .before .before .before .before .before .before .before .before .before .pre .0)
+
+mul-width-of-2 : tie.Need-mul-width-of-2 Inv-loop μ-loop
+mul-width-of-2 c = omega (arith, held (c .before) .inside, c .before .before .before .before .before .before .before .before .before .pre .0)
+
+array-read-width-of-2 : tie.Need-array-read-width-of-2 Inv-loop μ-loop
+array-read-width-of-2 c = omega (arith, held (c .before) .inside, c .before .before .before .before .before .before .before .before .before .pre .0)
+
+width-of-requires-2 : tie.Need-width-of-requires-2 Inv-loop μ-loop
+width-of-requires-2 c κs =
+    let h = held (c .before) in
+    omega (arith, h .left-fits, h .right-fits, c .before .before .before .before .before .before .before .before .before .pre .1)
+
+add-j : tie.Need-add-j Inv-loop μ-loop
+add-j c = omega (arith, c .before .before .loop-test .taken, c .before .before .before .before .before .before .pre .0)
 
 loop-less : tie.Need-loop-less Inv-loop μ-loop
-loop-less c = omega (arith, c .before .before .before .before .before .before .loop-test .taken)
+loop-less c = omega (arith, c .before .before .loop-test .taken)
 
 loop-again : tie.Need-loop-again Inv-loop μ-loop
 loop-again c =
-    let i = c .before .before .before .before .before .before in
-    let a = i .before .before .args in
-    let l = i .before .loop in (
-      omega (arith, l .inv .0),
-      held-now (a .t1) (a .low) (a .high) widest (c .before .width-of .result) (l .j - 1) (c .before .width-of .ensures) (turning i)
-          (omega (arith, l .inv .0, i .loop-test .taken)) (hit (c .before .before)) (omega (arith, c .if2 .taken)),
-    )
-
-loop-less-2 : tie.Need-loop-less-2 Inv-loop μ-loop
-loop-less-2 c = omega (arith, c .before .before .before .before .before .before .loop-test .taken)
-
-loop-again-2 : tie.Need-loop-again-2 Inv-loop μ-loop
-loop-again-2 c =
-    let i = c .before .before .before .before .before .before in
-    let a = i .before .before .args in
-    let l = i .before .loop in (
-      omega (arith, l .inv .0),
-      held-still (a .t1) (a .low) (a .high) widest (c .before .width-of .result) (l .j - 1) (c .before .width-of .ensures) (turning i)
-          (omega (arith, c .before .width-of .ok)) (omega (arith, c .if2 .left)),
-    )
-
-loop-less-3 : tie.Need-loop-less-3 Inv-loop μ-loop
-loop-less-3 c = omega (arith, c .before .before .before .before .loop-test .taken)
-
-loop-again-3 : tie.Need-loop-again-3 Inv-loop μ-loop
-loop-again-3 c =
-    let i = c .before .before .before .before in
-    let a = i .before .before .args in
-    let l = i .before .loop in (
-      omega (arith, l .inv .0),
-      held-more (a .t1) (a .low) (a .high) widest (l .j - 1) (turning i) (miss c),
+    let a = c .before .before .before .before .before .before .args in
+    let l = c .before .before .before .loop in (
+      omega (arith, c .before .before .loop-test .taken),
+      rw (add-one (l .j))
+          (⊎-elim
+          (λ w. rw (w .3) (held-first (a .p) (a .low) (a .high) (l .j) (l .inv .1) (hit (c .before) (w .0 .taken)) (w .2 .taken)))
+          (⊎-elim
+          (λ w. rw (w .6) (held-now (a .p) (a .low) (a .high) (l .j) (l .inv .1) (hit (c .before) (w .0 .taken)) (w .2 .left) (omega (arith, w .3 .ensures, w .4 .ensures, w .5 .taken))))
+          (⊎-elim
+          (λ w. rw (w .6) (held-still (a .p) (a .low) (a .high) (l .j) (l .inv .1) (w .2 .left) (omega (arith, w .3 .ensures, w .4 .ensures, w .5 .left))))
+          (λ w. rw (w .1) (held-more (a .p) (a .low) (a .high) (l .j) (l .inv .1) (miss (c .before) (w .0 .left))))))
+          (c .if1 .came)),
     )
 
 returns : tie.Need-returns Inv-loop μ-loop
-returns c = let a = c .before .before .args in let l = c .before .loop in let z : l .j ≡ 0 = omega arith in held-all (a .t1) (a .low) (a .high) widest (rw z at (l .inv .1))
+returns c =
+    let a = c .before .before .before .before .args in
+    let l = c .before .loop in
+    let z : l .j ≡ a .p .buckets = omega (arith, l .inv .0, c .loop-test .left) in
+    held-all (a .p) (a .low) (a .high) (rw z at (l .inv .1))
 
 pub chosen-bucket-spec : {M : Type 1} → statement M
 chosen-bucket-spec =
@@ -111,18 +122,20 @@ chosen-bucket-spec =
     Inv-loop
     μ-loop
     loop-holds
-    sub-j
     cast-at
     mul-left
-    element-copy-out-left
+    array-read-left
     mul-right
-    element-copy-out-right
+    array-read-right
     contains-requires
+    cast-held
     width-of-requires
+    mul-width-of
+    array-read-width-of
+    mul-width-of-2
+    array-read-width-of-2
+    width-of-requires-2
+    add-j
     loop-less
     loop-again
-    loop-less-2
-    loop-again-2
-    loop-less-3
-    loop-again-3
     returns)
