@@ -1,9 +1,11 @@
 -- The parts of the words, and places past a count.
 mod PartLaws
 pub mod Ignored
+-- Which bucket an answer names, and that nothing else hangs on it.
+pub mod Named
+pub mod AsBefore
 -- A draw to any state, and what a refusal hands back.
 pub mod OneStep
-pub mod AsBefore
 pub mod Refusing
 -- A carried test: one threshold, the whole state, the beginning, demand 3.
 mod OneThreshold

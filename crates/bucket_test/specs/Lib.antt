@@ -2,6 +2,7 @@
 pub mod Words
 pub mod Turn
 pub mod Answers
+pub mod Named
 pub mod Draw
 pub mod Refused
 pub mod Ignored
