@@ -63,6 +63,7 @@ fn main() {
     trial(b"count0.plan", b"five", &mut words);
     trial(b"close.plan", b"five", &mut words);
     trial(b"apart.plan", b"none", &mut words);
+    trial(b"narrower.plan", b"five", &mut words);
     trial(b"f.plan", b"foreign", &mut words);
     trial(b"f.plan", b"newlines", &mut words);
     trial(b"f.plan", b"after", &mut words);
