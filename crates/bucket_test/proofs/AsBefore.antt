@@ -1,25 +1,23 @@
 -- Two choices that name a containing bucket exactly where there is one differ in the bucket's number only (specs/AsBefore).
-use mathlib.Core.Path.{_≡_, refl, sym}
-use mathlib.Core.Bool.{Bool, true, false, not}
+use mathlib.Core.Path.{_≡_, refl}
+use mathlib.Core.Bool.{Bool, true, false}
 use mathlib.Core.List.{List, [], _∷_}
-use Prim.Native.Nat.{ℕ, zero, suc, _<_}
+use Prim.Native.Nat.{ℕ, zero, suc}
 use native.Mathlib.Omega.{arith}
-use Rattle.walk.specs.Numbers.{le?, lt?}
-use Rattle.walk.proofs.Tests.{Le?, le, gt, test, le?-complete, le?-fails}
-use Rattle.plan.specs.Places.{eq?, unless, firstRefusal}
+use Rattle.walk.specs.Numbers.{lt?}
+use Rattle.walk.proofs.Tests.{Le?, le, gt, test}
+use Rattle.plan.specs.Places.{eq?}
 use Rattle.plan.specs.Plan.{planRefusal}
 use Rattle.bucket_choice.specs.Choice.{Choice, chosenBucket, firstBucket}
 use Rattle.bucket_choice.specs.Chosen.{NamesContaining}
 use Rattle.bucket_choice.proofs.Choices.{choices}
-use Rattle.bucket_test.specs.Words.{wordsFit}
-use Rattle.bucket_test.specs.Answers.{lowOf, highOf, anyWide, firstThatFits, answerBy, answerOver, isEnding}
-use Rattle.bucket_test.specs.Draw.{Outcome, startState, beginRefusal, begunBy, begunOver, stateSound, drawRefusalOver, nextState, drawnBy, drawnOver, reportBy, reportOver}
+use Rattle.bucket_test.specs.Answers.{lowOf, highOf, anyWide, firstThatFits, answerBy, answerOver}
+use Rattle.bucket_test.specs.Draw.{startState, beginRefusal, begunBy, begunOver, drawRefusalOver, nextState, drawnBy, drawnOver, reportBy, reportOver}
 use Rattle.bucket_test.specs.Carried.{carriedOver}
-use Rattle.bucket_test.specs.AsBefore.{SameAnswer, SameReport, SameOutcome, SameButBucket, AnyChoiceTheorem, AsBeforeTheorem}
+use Rattle.bucket_test.specs.AsBefore.{SameAnswer, SameReport, SameOutcome, AnyChoiceTheorem, AsBeforeTheorem}
 use Rattle.bucket_test.specs.declared.State.{State}
 use Rattle.plan.specs.declared.Plan.{Plan}
 use Rattle.bucket_test.specs.declared.Answer.{Answer}
-use Rattle.bucket_test.specs.declared.Answer.the-variants.{Decided}
 
 same : (a : Answer) → SameAnswer a a
 same a = record { number-same = refl; word-same = refl; ending-same = refl }

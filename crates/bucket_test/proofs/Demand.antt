@@ -19,7 +19,7 @@ use Rattle.plan.specs.Plan.{thresholdAt, spendingOf, planRefusal, Accepted}
 use Rattle.bucket_test.specs.Words.{partAt, Stands}
 use Rattle.bucket_test.specs.Turn.{recordAt}
 use Rattle.bucket_test.specs.Answers.{answerOf, isEnding, refusalOf}
-use Rattle.bucket_test.specs.Draw.{Outcome, beginRefusal, begunOver, drawRefusalOver, drawRefusal, drawnBy, drawnOver, drawn}
+use Rattle.bucket_test.specs.Draw.{Outcome, beginRefusal, begunOver, drawRefusalOver, drawRefusal, drawnBy, drawnOver}
 use Rattle.bucket_test.specs.Carried.{carriedOver, carried, hasEnded, takenBy, taken}
 use Rattle.bucket_test.specs.Demand3.{Marks, AnswersDraw, Answered, Demand3, Demand3Theorem}
 use Rattle.plan.proofs.AcceptedLaws.{threshold-ok, spends, accepted}

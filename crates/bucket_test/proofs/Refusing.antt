@@ -4,7 +4,7 @@ use mathlib.Core.List.{List}
 use Prim.Native.Nat.{ℕ, zero, suc}
 use Rattle.plan.specs.declared.Plan.{Plan}
 use Rattle.bucket_test.specs.Answers.{answerOf, refusalOf}
-use Rattle.bucket_test.specs.Draw.{noState, beginRefusal, begunBy, begunOver, begun, drawRefusal, nextState, drawnBy, drawnOver, drawn}
+use Rattle.bucket_test.specs.Draw.{noState, beginRefusal, begunBy, begunOver, drawRefusal, nextState, drawnBy, drawnOver, drawn}
 use Rattle.bucket_test.specs.Refused.{RefusedBeginning, RefusedDraw}
 use Rattle.bucket_test.specs.declared.State.{State}
 use Rattle.bucket_test.specs.declared.Answer.the-variants.{Refused}

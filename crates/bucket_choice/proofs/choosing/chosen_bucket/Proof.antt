@@ -2,11 +2,10 @@
 use mathlib.Core.Path.{_≡_, sym, _∙_}
 use mathlib.Core.Bool.{true, false}
 use mathlib.Core.Logic.{⊎-elim}
-use Prim.Native.Nat.{ℕ, _+_, _-_, _≤_, _<_}
+use Prim.Native.Nat.{_-_, _≤_}
 use native.Mathlib.Numerals.{add-one}
 use native.Mathlib.Omega.{arith}
 use borrow.Author.Needs.{needs}
-use Rattle.plan.specs.Plan.{leftAt, rightAt}
 use Rattle.bucket_choice.specs.Choice.{contains}
 use Rattle.bucket_choice.specs.Chosen.{Contains}
 use Rattle.bucket_choice.proofs.ChoiceLaws.{contains-says}
