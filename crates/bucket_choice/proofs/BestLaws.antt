@@ -76,38 +76,39 @@ module _ (p : Plan) (low high : ℕ) where
       ⊎-elim (λ none. inr (λ j h. none j (h .inside) h))
       (λ s. let c : Chosen p low high (s .0) = best-chosen (s .1) in inl (rw (chosen-found p low high c) c)) (found (p .buckets) (omega arith))
 
-  -- ---- a loop that has looked at the places before n holds B, or the best of them
+-- ---- a loop that has looked at the places before n holds B, or the best of them
 
-  pub data Held (n : ℕ) : ℕ → Type 0 where
-    nothing : NoneTo n → Held n (p .buckets)
-    best : {k : ℕ} → BestTo n k → Held n k
+pub data Held (p : Plan) (low high n : ℕ) : ℕ → Type 0 where
+  nothing : NoneTo p low high n → Held p low high n (p .buckets)
+  best : {k : ℕ} → BestTo p low high n k → Held p low high n k
 
-  pub held-none : Held 0 (p .buckets)
+module _ {p : Plan} {low high : ℕ} where
+  pub held-none : Held p low high 0 (p .buckets)
   held-none = nothing (λ i l. absurd (omega arith))
 
-  pub held-all : {k : ℕ} → Held (p .buckets) k → k ≡ chosenBucket p low high
+  pub held-all : {k : ℕ} → Held p low high (p .buckets) k → k ≡ chosenBucket p low high
   held-all (nothing none) = sym (chosen-none p low high (λ j h. none j (h .inside) h))
-  held-all (best b) = sym (chosen-found p low high (best-chosen b))
+  held-all (best b) = sym (chosen-found p low high (best-chosen p low high b))
 
-  pub held-contains : {n k : ℕ} → Held n k → ¬ (k ≡ p .buckets) → Contains p low high k
+  pub held-contains : {n k : ℕ} → Held p low high n k → ¬ (k ≡ p .buckets) → Contains p low high k
   held-contains (nothing none) some = absurd (some refl)
   held-contains (best b) some = b .contains-it
 
   -- it looks at the place n: the bucket there does not contain the interval ..
   module _ (n : ℕ) where
-    pub held-more : {k : ℕ} → Held n k → contains p low high n ≡ false → Held (suc n) k
-    held-more (nothing none) e = nothing (none-more n none (contains-not p low high n e))
-    held-more (best b) e = best (best-still n b (λ h. absurd (contains-not p low high n e h)))
+    pub held-more : {k : ℕ} → Held p low high n k → contains p low high n ≡ false → Held p low high (suc n) k
+    held-more (nothing none) e = nothing (none-more p low high n none (contains-not p low high n e))
+    held-more (best b) e = best (best-still p low high n b (λ h. absurd (contains-not p low high n e h)))
 
     -- .. or does, and is the first that does; is narrower than the one held; or is passed over
-    pub held-first : {k : ℕ} → Held n k → Contains p low high n → k ≡ p .buckets → Held (suc n) n
-    held-first (nothing none) h e = best (best-here n h (λ i m g. absurd (none i m g)))
+    pub held-first : {k : ℕ} → Held p low high n k → Contains p low high n → k ≡ p .buckets → Held p low high (suc n) n
+    held-first (nothing none) h e = best (best-here p low high n h (λ i m g. absurd (none i m g)))
     held-first (best b) h e = absurd (omega (arith, b .contains-it .inside))
 
-    pub held-now : {k : ℕ} → Held n k → Contains p low high n → ¬ (k ≡ p .buckets) → widthAt p n < widthAt p k → Held (suc n) n
+    pub held-now : {k : ℕ} → Held p low high n k → Contains p low high n → ¬ (k ≡ p .buckets) → widthAt p n < widthAt p k → Held p low high (suc n) n
     held-now (nothing none) h some narrow = absurd (some refl)
-    held-now (best b) h some narrow = best (best-here n h (λ i m g. omega (arith, b .none-narrower i m g)))
+    held-now (best b) h some narrow = best (best-here p low high n h (λ i m g. omega (arith, b .none-narrower i m g)))
 
-    pub held-still : {k : ℕ} → Held n k → ¬ (k ≡ p .buckets) → widthAt p k ≤ widthAt p n → Held (suc n) k
+    pub held-still : {k : ℕ} → Held p low high n k → ¬ (k ≡ p .buckets) → widthAt p k ≤ widthAt p n → Held p low high (suc n) k
     held-still (nothing none) some wide = absurd (some refl)
-    held-still (best b) some wide = best (best-still n b (λ h. wide))
+    held-still (best b) some wide = best (best-still p low high n b (λ h. wide))

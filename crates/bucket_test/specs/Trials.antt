@@ -30,16 +30,7 @@ spending5 = spending 2199023255551 1
 
 -- thresholds 10,000 and 50,000 with such an allowance each, and buckets 0 to `end` and 50,000 to 1,000,000
 abbrev planOfTwo : ℕ → ℕ → Plan
-planOfTwo allowance end = record {
-  count = 2;
-  buckets = 2;
-  delay = 1000;
-  horizon = 200;
-  thresholds = 10000 ∷ 50000 ∷ replicate 8 0;
-  allowances = allowance ∷ allowance ∷ replicate 8 0;
-  left = 0 ∷ 50000 ∷ replicate 14 0;
-  right = end ∷ 1000000 ∷ replicate 14 0;
-}
+planOfTwo allowance end = planWith (10000 ∷ 50000 ∷ []) allowance 200 2 (0 ∷ 50000 ∷ []) (end ∷ 1000000 ∷ [])
 
 -- ten draws taken, and the thresholds so marked
 abbrev stateMarked : List Mark → State
@@ -49,7 +40,7 @@ stateMarked ms = record {
   records = map (λ m. record { mark = m; walked = startRecord .walked }) ms ++ replicate (countLimit - length ms) startRecord;
 }
 
--- thresholds 10,000 and 50,000, and buckets up to each and from each on: two of them contain an interval that ends at both
+-- thresholds 10,000 and 50,000, and buckets up to each and from each on: two of them contain each interval between neighbouring ends
 abbrev planOfFour : Plan
 planOfFour = planWith (10000 ∷ 50000 ∷ []) 4398046511 200 4 (0 ∷ 0 ∷ 10000 ∷ 50000 ∷ []) (50000 ∷ 10000 ∷ 1000000 ∷ 1000000 ∷ [])
 
@@ -92,7 +83,7 @@ computed =
     ∷ (pos (planRefusal (planOfTwo 2199023255552 50000)) ∷ [])
     -- P10
     ∷ (pos (planRefusal (planOfTwo 4398046511 10000)) ∷ [])
-    -- the narrower of two buckets; the only one; crossed, of which every bucket contains the interval; the star buckets
+    -- the narrower of two buckets; crossed, though each bucket has left ≤ low and high ≤ right; the star buckets
     ∷ answered planOfFour (stateMarked (AtMost 5 ∷ AtMost 5 ∷ []))
     ∷ answered planOfFour (stateMarked (Above 5 ∷ Above 5 ∷ []))
     ∷ answered planOfFour (stateMarked (Above 5 ∷ AtMost 5 ∷ []))

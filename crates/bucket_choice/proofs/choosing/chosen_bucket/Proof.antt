@@ -20,7 +20,7 @@ abbrev μ-loop : tie.MeasureT-loop
 μ-loop p low high lefts rights place₀ j₀ j-end place j = p .buckets - j
 
 loop-holds : tie.Need-loop-holds Inv-loop μ-loop
-loop-holds c = let a = c .before .before .args in (omega arith, held-none (a .p) (a .low) (a .high))
+loop-holds c = (omega arith, held-none)
 
 cast-at : tie.Need-cast-at Inv-loop μ-loop
 cast-at c = omega (arith, c .before .before .before .before .pre .0)
@@ -56,9 +56,7 @@ miss c t = sym (c .contains .ensures) ∙ t
 -- the one held does
 held : (c : tie.Else2 Inv-loop μ-loop) → let a = c .before .before .before .before .before .before .before .before .args in
     Contains (a .p) (a .low) (a .high) (c .before .before .before .before .before .loop .place)
-held c =
-    let a = c .before .before .before .before .before .before .before .before .args in
-    held-contains (a .p) (a .low) (a .high) (c .before .before .before .before .before .loop .inv .1) (c .if2 .left)
+held c = held-contains (c .before .before .before .before .before .loop .inv .1) (c .if2 .left)
 
 cast-held : tie.Need-cast-held Inv-loop μ-loop
 cast-held c = omega (arith, held c .inside, c .before .before .before .before .before .before .before .before .pre .0)
@@ -93,26 +91,22 @@ loop-less c = omega (arith, c .before .before .loop-test .taken)
 
 loop-again : tie.Need-loop-again Inv-loop μ-loop
 loop-again c =
-    let a = c .before .before .before .before .before .before .args in
-    let l = c .before .before .before .loop in (
+    let l = c .before .before .before .loop in
+    let seen = hit (c .before) in (
       omega (arith, c .before .before .loop-test .taken),
       rw (add-one (l .j))
+          (⊎-elim (λ w. rw (w .3) (held-first (l .j) (l .inv .1) (seen (w .0 .taken)) (w .2 .taken)))
           (⊎-elim
-          (λ w. rw (w .3) (held-first (a .p) (a .low) (a .high) (l .j) (l .inv .1) (hit (c .before) (w .0 .taken)) (w .2 .taken)))
-          (⊎-elim
-          (λ w. rw (w .6) (held-now (a .p) (a .low) (a .high) (l .j) (l .inv .1) (hit (c .before) (w .0 .taken)) (w .2 .left) (omega (arith, w .3 .ensures, w .4 .ensures, w .5 .taken))))
-          (⊎-elim
-          (λ w. rw (w .6) (held-still (a .p) (a .low) (a .high) (l .j) (l .inv .1) (w .2 .left) (omega (arith, w .3 .ensures, w .4 .ensures, w .5 .left))))
-          (λ w. rw (w .1) (held-more (a .p) (a .low) (a .high) (l .j) (l .inv .1) (miss (c .before) (w .0 .left))))))
-          (c .if1 .came)),
+          (λ w. rw (w .6) (held-now (l .j) (l .inv .1) (seen (w .0 .taken)) (w .2 .left) (omega (arith, w .3 .ensures, w .4 .ensures, w .5 .taken))))
+          (⊎-elim (λ w. rw (w .6) (held-still (l .j) (l .inv .1) (w .2 .left) (omega (arith, w .3 .ensures, w .4 .ensures, w .5 .left))))
+          (λ w. rw (w .1) (held-more (l .j) (l .inv .1) (miss (c .before) (w .0 .left)))))) (c .if1 .came)),
     )
 
 returns : tie.Need-returns Inv-loop μ-loop
 returns c =
-    let a = c .before .before .before .before .args in
     let l = c .before .loop in
-    let z : l .j ≡ a .p .buckets = omega (arith, l .inv .0, c .loop-test .left) in
-    held-all (a .p) (a .low) (a .high) (rw z at (l .inv .1))
+    let z : l .j ≡ c .before .before .before .before .args .p .buckets = omega (arith, l .inv .0, c .loop-test .left) in
+    held-all (rw z at (l .inv .1))
 
 pub chosen-bucket-spec : {M : Type 1} → statement M
 chosen-bucket-spec =
