@@ -34,15 +34,15 @@ module _ (p : Plan) (low high : ℕ) where
   pub contains-not : (j : ℕ) → contains p low high j ≡ false → ¬ Contains p low high j
   contains-not j e h = clash (sym (says-contains h) ∙ e)
 
-  narrower-reads : (j i : ℕ) → (narrower p low high j i ≡ true) ↔ ((contains p low high i ≡ true) × (widthAt p i < widthAt p j))
+  narrower-reads : (i j : ℕ) → (narrower p low high i j ≡ true) ↔ ((contains p low high i ≡ true) × (widthAt p i < widthAt p j))
   unfolding narrower
-  narrower-reads j i = both (λ e. e, λ e. e) (le-reads (suc (widthAt p i)) (widthAt p j))
+  narrower-reads i j = both (λ e. e, λ e. e) (le-reads (suc (widthAt p i)) (widthAt p j))
 
   narrowest-reads : (j : ℕ)
       → (narrowest p low high j ≡ true)
-      ↔ ((contains p low high j ≡ true) × (¬ ((i : ℕ) × (i < p .buckets) × (narrower p low high j i ≡ true))))
+      ↔ ((contains p low high j ≡ true) × (¬ ((i : ℕ) × (i < p .buckets) × (narrower p low high i j ≡ true))))
   unfolding narrowest
-  narrowest-reads j = both (λ e. e, λ e. e) (neither _ (any-reads (narrower p low high j) (p .buckets)))
+  narrowest-reads j = both (λ e. e, λ e. e) (neither _ (any-reads (λ i. narrower p low high i j) (p .buckets)))
 
   -- ---- the place to be named
 
@@ -61,7 +61,7 @@ module _ (p : Plan) (low high : ℕ) where
       passes =
           narrowest-reads j .1 (
             says-contains (c .contains-it),
-            λ s. let h = narrower-reads j (s .0) .0 (s .2) in omega (arith, h .1, c .none-narrower (s .0) (contains-says (s .0) (s .1) (h .0))),
+            λ s. let h = narrower-reads (s .0) j .0 (s .2) in omega (arith, h .1, c .none-narrower (s .0) (contains-says (s .0) (s .1) (h .0))),
           )
 
       -- an earlier one that contains the interval is wider
@@ -76,7 +76,7 @@ module _ (p : Plan) (low high : ℕ) where
           n .1 (
             j,
             c .contains-it .inside,
-            narrower-reads i j .1
+            narrower-reads j i .1
                 (says-contains (c .contains-it), wider i l (contains-says i (omega (arith, c .contains-it .inside)) (n .0))),
           )
 
@@ -96,15 +96,15 @@ module _ (p q : Plan) (buckets : q .buckets ≡ p .buckets)
   width-same : (j : ℕ) → j < q .buckets → widthAt q j ≡ widthAt p j
   width-same j l = let e = ends j (omega arith) in omega (arith, e .0, e .1)
 
-  narrower-same : (j i : ℕ) → j < q .buckets → i < q .buckets → narrower q low high j i ≡ narrower p low high j i
+  narrower-same : (i j : ℕ) → i < q .buckets → j < q .buckets → narrower q low high i j ≡ narrower p low high i j
   unfolding narrower
-  narrower-same j i l m = rw (contains-same i m, width-same i m, width-same j l)
+  narrower-same i j l m = rw (contains-same i l, width-same i l, width-same j m)
 
   narrowest-same : (j : ℕ) → j < q .buckets → narrowest q low high j ≡ narrowest p low high j
   unfolding narrowest
   narrowest-same j l =
-      rw (contains-same j l, any-cong (q .buckets) (narrower q low high j) (narrower p low high j) (λ i. narrower-same j i l))
-      (ap (λ n. contains p low high j && not (anyTo n (narrower p low high j))) buckets)
+      rw (contains-same j l, any-cong (q .buckets) (λ i. narrower q low high i j) (λ i. narrower p low high i j) (λ i m. narrower-same i j m l))
+      (ap (λ n. contains p low high j && not (anyTo n (λ i. narrower p low high i j))) buckets)
 
   pub chosen-cong : chosenBucket q low high ≡ chosenBucket p low high
   unfolding chosenBucket

@@ -6,7 +6,7 @@ use Rattle.plan.specs.Places.{anyTo}
 use Rattle.plan.specs.Plan.{leftAt, rightAt}
 use Rattle.plan.specs.declared.Plan.{Plan}
 
--- the width of the bucket at place j: its right end minus its left end
+-- the width of the bucket at place j: its right end minus its left end; 0 where the right end is below the left one, as in no accepted plan
 abbrev pub widthAt : Plan → ℕ → ℕ
 widthAt p j = rightAt p j - leftAt p j
 
@@ -17,13 +17,13 @@ module _ (p : Plan) (low high : ℕ) where
 
   -- the bucket at place i contains it and is narrower than the one at place j
   unfoldable pub narrower : ℕ → ℕ → Bool
-  narrower j i = contains i && lt? (widthAt p i) (widthAt p j)
+  narrower i j = contains i && lt? (widthAt p i) (widthAt p j)
 
   -- the one at place j contains it, and none that does is narrower
   unfoldable pub narrowest : ℕ → Bool
-  narrowest j = contains j && not (anyTo (p .buckets) (narrower j))
+  narrowest j = contains j && not (anyTo (p .buckets) (λ i. narrower i j))
 
--- the place of the bucket that is named for an interval under a plan; B where none is
+-- the place of the bucket that is named for an interval under a plan; B or more where none is
 abbrev pub Choice : Type 0
 Choice = Plan → ℕ → ℕ → ℕ
 

@@ -1,8 +1,8 @@
 -- What is claimed of a choice of buckets, in words (rules 7.2). Definitions only.
 use mathlib.Core.Path.{_≡_}
-use Prim.Native.Nat.{ℕ, _≤_, _<_}
+use Prim.Native.Nat.{ℕ, _-_, _≤_, _<_}
 use Rattle.plan.specs.Plan.{leftAt, rightAt}
-use Rattle.bucket_choice.specs.Choice.{widthAt, Choice, chosenBucket, firstBucket}
+use Rattle.bucket_choice.specs.Choice.{Choice, chosenBucket, firstBucket}
 use Rattle.plan.specs.declared.Plan.{Plan}
 
 -- the bucket at place j contains the interval from low to high
@@ -14,8 +14,8 @@ pub record Contains (p : Plan) (low high j : ℕ) : Type 0 where
 -- it is the one to be named: of all that contain the interval it is the first of the narrowest
 pub record Chosen (p : Plan) (low high j : ℕ) : Type 0 where
   pub contains-it : Contains p low high j
-  pub none-narrower : (i : ℕ) → Contains p low high i → widthAt p j ≤ widthAt p i
-  pub none-earlier : (i : ℕ) → Contains p low high i → widthAt p i ≡ widthAt p j → j ≤ i
+  pub none-narrower : (i : ℕ) → Contains p low high i → rightAt p j - leftAt p j ≤ rightAt p i - leftAt p i
+  pub none-earlier : (i : ℕ) → Contains p low high i → rightAt p i - leftAt p i ≡ rightAt p j - leftAt p j → j ≤ i
 
 -- a choice names, under the plan p, a bucket that contains the interval exactly where there is one
 pub record NamesContaining (choice : Choice) (p : Plan) : Type 0 where

@@ -27,7 +27,7 @@ starPlan =
     planWith (500 ∷ 1000 ∷ 2000 ∷ 8000 ∷ 10000 ∷ 12000 ∷ 45000 ∷ 50000 ∷ 55000 ∷ []) 488671834 50000 7
     (0 ∷ 1000 ∷ 10000 ∷ 50000 ∷ 500 ∷ 8000 ∷ 45000 ∷ []) (1000 ∷ 10000 ∷ 50000 ∷ 1000000 ∷ 2000 ∷ 12000 ∷ 55000 ∷ [])
 
--- so many of the buckets with these ends
+-- so many of the buckets with these ends; such a plan need not be accepted
 abbrev bucketsFrom : ℕ → List ℕ → List ℕ → Plan
 bucketsFrom = planWith (10000 ∷ 20000 ∷ 30000 ∷ 40000 ∷ 50000 ∷ []) 4398046511 200
 
@@ -59,7 +59,9 @@ computed =
     ∷ places (bucketsFrom 3 (0 ∷ 10000 ∷ 0 ∷ []) (50000 ∷ 40000 ∷ 30000 ∷ [])) 10000 30000
     ∷ places (bucketsFrom 3 (0 ∷ 10000 ∷ 0 ∷ []) (30000 ∷ 40000 ∷ 50000 ∷ [])) 10000 30000
     ∷ places (bucketsFrom 3 (0 ∷ 10000 ∷ 10000 ∷ []) (50000 ∷ 30000 ∷ 30000 ∷ [])) 10000 20000
-    -- wider by the left end, narrower by the right one; the other way round
+    -- 1,500 and 1,000 wide
+    ∷ places (bucketsFrom 2 (500 ∷ 1000 ∷ []) (2000 ∷ 2000 ∷ [])) 1000 2000
+    -- the narrower has the smaller left end; has the larger right end
     ∷ places (bucketsFrom 2 (10000 ∷ 0 ∷ []) (1000000 ∷ 50000 ∷ [])) 10000 50000
     ∷ places (bucketsFrom 2 (0 ∷ 20000 ∷ []) (40000 ∷ 50000 ∷ [])) 20000 40000
     -- a narrower one that does not contain it; a narrower one past the count
@@ -85,6 +87,7 @@ printed =
     ∷ (0 ∷ 0 ∷ [])
     ∷ (1 ∷ 0 ∷ [])
     ∷ (0 ∷ 0 ∷ [])
+    ∷ (1 ∷ 0 ∷ [])
     ∷ (1 ∷ 0 ∷ [])
     ∷ (1 ∷ 0 ∷ [])
     ∷ (1 ∷ 0 ∷ [])

@@ -26,7 +26,8 @@ fn width_of(left: u32, right: u32) -> u32
     right - left
 }
 
-// Its place, or the number of buckets where none contains the interval.
+// Its place, or the number of buckets where none contains the interval. There are at most 16, and low is at most high: so a bucket that contains
+// the interval has its left end at most at its right one.
 pub fn chosen_bucket(p: Plan, low: u32, high: u32) -> u32
     requires { ⌜ (p .buckets ≤ bucketLimit) × (low ≤ high) ⌝ }
     ensures { λ r. ⌜ r ≡ chosenBucket p low high ⌝ }

@@ -47,47 +47,48 @@ module _ (p : Plan) (one other : Choice) (a : NamesContaining one p) (b : NamesC
       rw (named-same (lowOf p s) (highOf p s))
       (same-fits (lt? (highOf p s) (lowOf p s)) (lt? (other p (lowOf p s) (highOf p s)) (p .buckets)) _ _ (anyWide p s) (eq? (s .n) (p .horizon)))
 
-  report-same : (s : State) → SameReport (reportOver (answerOver one) p s) (reportOver (answerOver other) p s)
+  report-same : (s : State) → SameReport (reportOver one p s) (reportOver other p s)
   unfolding reportOver
   report-same s = go (planRefusal p)
     where
-      go : (r : ℕ) → SameReport (reportBy (answerOver one) r p s) (reportBy (answerOver other) r p s)
+      go : (r : ℕ) → SameReport (reportBy one r p s) (reportBy other r p s)
       go zero = record { answer-same = answer-same s; low-same = refl; high-same = refl }
       go (suc r) = record { answer-same = same _; low-same = refl; high-same = refl }
 
-  begun-same : (words : List ℕ) → SameOutcome (begunOver (answerOver one) p words) (begunOver (answerOver other) p words)
+  begun-same : (words : List ℕ) → SameOutcome (begunOver one p words) (begunOver other p words)
   unfolding begunOver
   begun-same words = go (beginRefusal p words)
     where
-      go : (r : ℕ) → SameOutcome (begunBy (answerOver one) r p words) (begunBy (answerOver other) r p words)
+      go : (r : ℕ) → SameOutcome (begunBy one r p words) (begunBy other r p words)
       go zero = record { answer-same = answer-same startState; state-same = refl; words-same = refl }
       go (suc r) = record { answer-same = same _; state-same = refl; words-same = refl }
 
   refusal-same : (s : State) (words : List ℕ) (d : ℕ)
-      → drawRefusalOver (answerOver one) p s words d ≡ drawRefusalOver (answerOver other) p s words d
+      → drawRefusalOver one p s words d ≡ drawRefusalOver other p s words d
   unfolding drawRefusalOver
   refusal-same s words d = rw (answer-same s .ending-same)
 
-  drawn-same : (s : State) (words : List ℕ) (d : ℕ) → SameOutcome (drawnOver (answerOver one) p s words d) (drawnOver (answerOver other) p s words d)
+  drawn-same : (s : State) (words : List ℕ) (d : ℕ) → SameOutcome (drawnOver one p s words d) (drawnOver other p s words d)
   unfolding drawnOver
-  drawn-same s words d = rw (refusal-same s words d) (go (drawRefusalOver (answerOver other) p s words d))
+  drawn-same s words d = rw (refusal-same s words d) (go (drawRefusalOver other p s words d))
     where
-      go : (r : ℕ) → SameOutcome (drawnBy (answerOver one) r p s words d) (drawnBy (answerOver other) r p s words d)
+      go : (r : ℕ) → SameOutcome (drawnBy one r p s words d) (drawnBy other r p s words d)
       go zero = record { answer-same = answer-same (nextState p s words d); state-same = refl; words-same = refl }
       go (suc r) = record { answer-same = same _; state-same = refl; words-same = refl }
 
-  carried-same : (words ds : List ℕ) → SameOutcome (carriedOver (answerOver one) p words ds) (carriedOver (answerOver other) p words ds)
+  carried-same : (words ds : List ℕ) → SameOutcome (carriedOver one p words ds) (carriedOver other p words ds)
   unfolding carriedOver
   carried-same words [] = begun-same words
   carried-same words (d ∷ ds) =
       let h = carried-same words ds in
       rw (h .state-same, h .words-same)
-      (drawn-same (carriedOver (answerOver other) p words ds .state) (carriedOver (answerOver other) p words ds .words) d)
+      (drawn-same (carriedOver other p words ds .state) (carriedOver other p words ds .words) d)
 
 pub any-choice : AnyChoiceTheorem
 any-choice p one other a b = record {
   answers = answer-same p one other a b;
   reports = report-same p one other a b;
+  draws = drawn-same p one other a b;
   carries = carried-same p one other a b;
 }
 

@@ -16,6 +16,7 @@ use Rattle.walk.proofs.WalkFacts.{walk-facts}
 use Rattle.walk.proofs.RecordLaws.{mark-nil, narrow-start}
 use Rattle.plan.specs.Places.{unless, firstRefusal}
 use Rattle.plan.specs.Plan.{thresholdAt, spendingOf, planRefusal, Accepted}
+use Rattle.bucket_choice.specs.Choice.{chosenBucket}
 use Rattle.bucket_test.specs.Words.{partAt, Stands}
 use Rattle.bucket_test.specs.Turn.{recordAt}
 use Rattle.bucket_test.specs.Answers.{answerOf, isEnding, refusalOf}
@@ -115,7 +116,7 @@ module _ (p : Plan) (ok : Accepted p) (good : planRefusal p ≡ 0) (words : List
 
     -- the call, with the refusal r that is due
     abbrev call : ℕ → Outcome
-    call r = drawnBy answerOf r p (carried p words ds .state) (carried p words ds .words) d
+    call r = drawnBy chosenBucket r p (carried p words ds .state) (carried p words ds .words) d
 
     -- the draws taken then
     abbrev next : ℕ → Draws

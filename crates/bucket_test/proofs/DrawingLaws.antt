@@ -17,6 +17,7 @@ use Rattle.walk.proofs.Tests.{and-true, le?-sound, le?-complete, le?-fails}
 use Rattle.walk.proofs.SoundnessLaws.{steppable}
 use Rattle.plan.specs.Places.{overTo, joinTo}
 use Rattle.plan.specs.Plan.{thresholdAt, spendingOf, planRefusal, Accepted}
+use Rattle.bucket_choice.specs.Choice.{chosenBucket}
 use Rattle.bucket_test.specs.Words.{partAt, wordsFit}
 use Rattle.bucket_test.specs.Turn.{recordAt, MayTurn, recordSound, recordTurn, partTurn, recordSoundAt, MayTurnAt}
 use Rattle.bucket_test.specs.Answers.{lowOf, highOf, answerOf, isEnding}
@@ -94,7 +95,7 @@ hands e p q = (p ∙ ap drawnOf (sym e), q ∙ ap (λ (o : Outcome). o .words) (
 module _ (p : Plan) (ws : List ℕ) where
   -- ---- the ways out of a beginning
 
-  begun-by : (r : ℕ) → beginRefusal p ws ≡ r → begun p ws ≡ begunBy answerOf r p ws
+  begun-by : (r : ℕ) → beginRefusal p ws ≡ r → begun p ws ≡ begunBy chosenBucket r p ws
   unfolding begunOver
   begun-by r e = rw e
 
@@ -115,7 +116,7 @@ module _ (p : Plan) (ws : List ℕ) where
 -- ---- the ways out of a draw
 
 module _ (p : Plan) (s : State) (ws : List ℕ) (d : ℕ) where
-  pub drawn-by : (r : ℕ) → drawRefusal p s ws d ≡ r → drawn p s ws d ≡ drawnBy answerOf r p s ws d
+  pub drawn-by : (r : ℕ) → drawRefusal p s ws d ≡ r → drawn p s ws d ≡ drawnBy chosenBucket r p s ws d
   unfolding drawnOver
   drawn-by r e = rw e
 

@@ -7,6 +7,7 @@ use lib.ListN.{getD}
 use Rattle.walk.specs.Numbers.{le?}
 use Rattle.plan.specs.Plan.{thresholdAt, allowanceAt, leftAt, rightAt, planRefusal}
 use Rattle.plan.specs.SameCounted.{SameRules}
+use Rattle.bucket_choice.specs.Choice.{chosenBucket}
 use Rattle.bucket_test.specs.Words.{wordsFit}
 use Rattle.bucket_test.specs.Answers.{lowOf, highOf, anyWide, answerOf}
 use Rattle.bucket_test.specs.Draw.{startState, startWords, beginRefusal, begunBy, begunOver, begun, stateSound, drawRefusalOver, drawRefusal, nextState, nextWords, drawnBy, drawnOver, drawn, reportBy, reportOver, report}
@@ -48,7 +49,7 @@ module _ (p : Plan) (thresholds allowances left right : List ℕ)
     unfolding reportOver
     report-same = rw (rules .refusal-same) (go (planRefusal p))
       where
-        go : (r : ℕ) → reportBy answerOf r q s ≡ reportBy answerOf r p s
+        go : (r : ℕ) → reportBy chosenBucket r q s ≡ reportBy chosenBucket r p s
         go zero = rw (answer-same, low-same, high-same)
         go (suc r) = refl
 
@@ -58,7 +59,7 @@ module _ (p : Plan) (thresholds allowances left right : List ℕ)
   unfolding begunOver beginRefusal wordsFit startWords
   begun-same words = rw (rules .refusal-same) (go (beginRefusal p words))
     where
-      go : (r : ℕ) → begunBy answerOf r q words ≡ begunBy answerOf r p words
+      go : (r : ℕ) → begunBy chosenBucket r q words ≡ begunBy chosenBucket r p words
       go zero = rw (answer-same startState)
       go (suc r) = refl
 
@@ -88,7 +89,7 @@ module _ (p : Plan) (thresholds allowances left right : List ℕ)
       unfolding drawnOver
       drawn-same = rw refusal-same (go (drawRefusal p s words d))
         where
-          go : (r : ℕ) → drawnBy answerOf r q s words d ≡ drawnBy answerOf r p s words d
+          go : (r : ℕ) → drawnBy chosenBucket r q s words d ≡ drawnBy chosenBucket r p s words d
           go zero = rw (state-same, words-same, answer-same (nextState p s words d))
           go (suc r) = refl
 

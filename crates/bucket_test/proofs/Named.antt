@@ -1,24 +1,34 @@
 -- The answer rule names the first of the narrowest buckets that contain the interval (specs/Named).
-use mathlib.Core.Path.{_≡_, refl}
+use mathlib.Core.Path.{_≡_, refl, sym, _∙_, ap}
 use mathlib.Core.Bool.{Bool, true, false}
 use mathlib.Core.Logic.{_↔_}
 use Prim.Native.Nat.{ℕ, suc, _≤_, _<_}
 use native.Mathlib.Omega.{arith}
-use Rattle.walk.proofs.Tests.{Le?, le, gt, test}
+use Rattle.walk.proofs.Tests.{Le?, le, gt, test, clash}
 use Rattle.plan.specs.Places.{eq?}
 use Rattle.bucket_choice.specs.Choice.{chosenBucket}
 use Rattle.bucket_choice.specs.Chosen.{Contains, Chosen}
 use Rattle.bucket_choice.proofs.Choices.{choices}
-use Rattle.bucket_test.specs.Answers.{lowOf, highOf, anyWide, firstThatFits, answerBy, answerOver, bucketOf}
+use Rattle.bucket_test.specs.Answers.{lowOf, highOf, anyWide, firstThatFits, answerBy, answerOver, answerOf, bucketOf}
 use Rattle.bucket_test.specs.Named.{NamedTheorem}
 use Rattle.bucket_test.specs.declared.State.{State}
 use Rattle.plan.specs.declared.Plan.{Plan}
+use Rattle.bucket_test.specs.declared.Answer.{Answer}
+use Rattle.bucket_test.specs.declared.Answer.the-variants.{Open, Decided, Crossed, Wide, Spent, Refused}
 
--- no bucket is named by an answer that is not `decided`
-none-named : (w e : Bool) (j : ℕ) → bucketOf (firstThatFits false false j w e) ≡ 0
-none-named true e j = refl
-none-named false true j = refl
-none-named false false j = refl
+abbrev isDecided : Answer → Bool
+isDecided Open = false
+isDecided (Decided b) = true
+isDecided Crossed = false
+isDecided Wide = false
+isDecided Spent = false
+isDecided (Refused r) = false
+
+-- where no bucket is named, the answer is not `decided`
+none-decided : (w e : Bool) (j : ℕ) → isDecided (firstThatFits false false j w e) ≡ false
+none-decided true e j = refl
+none-decided false true j = refl
+none-decided false false j = refl
 
 module _ (p : Plan) (s : State) where
   abbrev low : ℕ
@@ -33,24 +43,32 @@ module _ (p : Plan) (s : State) where
   chosen : place < p .buckets → Chosen p low high place
   chosen = choices p .chosen-is low high
 
-  -- what an answer with the bucket number b says
-  abbrev Says : ℕ → Type 0
-  Says b = ((¬ (b ≡ 0)) ↔ ((low ≤ high) × ((j : ℕ) × Contains p low high j))) × ((j : ℕ) → b ≡ suc j → Chosen p low high j)
+  some-named : (j : ℕ) → Contains p low high j → place < p .buckets
+  some-named = choices p .chosen-names .some-named low high
 
-  says : {x y : Bool} → Le? (suc high) low x → Le? (suc place) (p .buckets) y → (w e : Bool) → Says (bucketOf (firstThatFits x y place w e))
-  says (le h) t w e = ((λ f. absurd (f refl), λ a. absurd (omega (arith, a .0))), λ j q. absurd (omega arith))
-  says (gt h) (le k) w e = (
-    (λ f. (omega arith, (place, chosen k .contains-it)), λ a q. omega arith),
-    λ j q. let z : place ≡ j = omega arith in rw z at (chosen k),
+  abbrev Which : Answer → ℕ → Type 0
+  Which a b = (a ≡ Decided b) ↔ ((low ≤ high) × ((j : ℕ) × (b ≡ suc j) × Chosen p low high j))
+
+  by-tests : {x y : Bool} → Le? (suc high) low x → Le? (suc place) (p .buckets) y → (w e : Bool) (b : ℕ) → Which (firstThatFits x y place w e) b
+  by-tests (le h) t w e b = (λ q. clash (sym (ap isDecided q)), λ a. absurd (omega (arith, a .0)))
+  by-tests (gt h) (le k) w e b = (
+    λ q. let z : suc place ≡ b = ap bucketOf q in (omega arith, (place, sym z, chosen k)),
+    λ a. ap Decided (let z = choices p .only-one low high place (a .1 .0) (chosen k) (a .1 .2) in omega (arith, z, a .1 .1)),
   )
-  says (gt h) (gt k) w e =
-      rw (none-named w e place) (
-        (λ f. absurd (f refl), λ a. absurd (omega (arith, choices p .chosen-names .some-named low high (a .1 .0) (a .1 .1)))),
-        λ j q. absurd (omega arith),
-      )
+  by-tests (gt h) (gt k) w e b = (
+    λ q. clash (sym (ap isDecided q) ∙ none-decided w e place),
+    λ a. absurd (omega (arith, some-named (a .1 .0) (a .1 .2 .contains-it))),
+  )
+
+  which : (b : ℕ) → Which (answerOf p s) b
+  unfolding answerOver answerBy
+  which = by-tests (test (suc high) low) (test (suc place) (p .buckets)) (anyWide p s) (eq? (s .n) (p .horizon))
 
 pub named : NamedTheorem
-unfolding answerOver answerBy
-named p s =
-    let h = says p s (test (suc (highOf p s)) (lowOf p s)) (test (suc (place p s)) (p .buckets)) (anyWide p s) (eq? (s .n) (p .horizon)) in
-    record { where-some = h .0; which = h .1 }
+named p s = record {
+  decided-where = (
+    λ a. let h = which p s (a .0) .0 (a .1) in (h .0, (h .1 .0, h .1 .2 .contains-it)),
+    λ a. (suc (place p s), which p s (suc (place p s)) .1 (a .0, (place p s, refl, chosen p s (some-named p s (a .1 .0) (a .1 .1))))),
+  );
+  decided-which = which p s;
+}

@@ -3,7 +3,8 @@ use mathlib.Core.Path.{_≡_, refl}
 use mathlib.Core.List.{List}
 use Prim.Native.Nat.{ℕ, zero, suc}
 use Rattle.plan.specs.declared.Plan.{Plan}
-use Rattle.bucket_test.specs.Answers.{answerOf, refusalOf}
+use Rattle.bucket_choice.specs.Choice.{chosenBucket}
+use Rattle.bucket_test.specs.Answers.{refusalOf}
 use Rattle.bucket_test.specs.Draw.{noState, beginRefusal, begunBy, begunOver, drawRefusal, nextState, drawnBy, drawnOver, drawn}
 use Rattle.bucket_test.specs.Refused.{RefusedBeginning, RefusedDraw}
 use Rattle.bucket_test.specs.declared.State.{State}
@@ -14,7 +15,7 @@ pub refused-beginning : RefusedBeginning
 unfolding begunOver
 refused-beginning p words = go (beginRefusal p words)
   where
-    go : (r : ℕ) → ¬ (r ≡ 0) → begunBy answerOf r p words ≡ record { answer = Refused r; state = noState; words = words }
+    go : (r : ℕ) → ¬ (r ≡ 0) → begunBy chosenBucket r p words ≡ record { answer = Refused r; state = noState; words = words }
     go zero e = absurd (e refl)
     go (suc r) e = refl
 
@@ -22,7 +23,7 @@ pub refused-draw : RefusedDraw
 unfolding drawnOver
 refused-draw p s words d = go (drawRefusal p s words d)
   where
-    go : (r : ℕ) → ¬ (r ≡ 0) → drawnBy answerOf r p s words d ≡ record { answer = Refused r; state = s; words = words }
+    go : (r : ℕ) → ¬ (r ≡ 0) → drawnBy chosenBucket r p s words d ≡ record { answer = Refused r; state = s; words = words }
     go zero e = absurd (e refl)
     go (suc r) e = refl
 
@@ -32,6 +33,6 @@ pub refused-stays : (p : Plan) (s : State) (words : List ℕ) (d : ℕ) → ¬ (
 unfolding drawnOver
 refused-stays p s words d = go (drawRefusal p s words d)
   where
-    go : (r : ℕ) → ¬ (refusalOf (drawnBy answerOf r p s words d .answer) ≡ 0) → (drawnBy answerOf r p s words d .state ≡ s) × (drawnBy answerOf r p s words d .words ≡ words)
+    go : (r : ℕ) → ¬ (refusalOf (drawnBy chosenBucket r p s words d .answer) ≡ 0) → (drawnBy chosenBucket r p s words d .state ≡ s) × (drawnBy chosenBucket r p s words d .words ≡ words)
     go zero e = absurd (e (rule-answers p (nextState p s words d)))
     go (suc r) e = (refl, refl)

@@ -40,14 +40,11 @@ firstThatFits false false j false false = Open
 unfoldable pub answerBy : Plan → State → ℕ → ℕ → ℕ → Answer
 answerBy p s low high j = firstThatFits (lt? high low) (lt? j (p .buckets)) j (anyWide p s) (eq? (s .n) (p .horizon))
 
--- the answer rule over a choice of buckets, and the test's own
-abbrev pub Rule : Type 0
-Rule = Plan → State → Answer
-
-unfoldable pub answerOver : Choice → Rule
+-- the answer rule with any choice of buckets; then with the test's
+unfoldable pub answerOver : Choice → Plan → State → Answer
 answerOver choice p s = answerBy p s (lowOf p s) (highOf p s) (choice p (lowOf p s) (highOf p s))
 
-abbrev pub answerOf : Rule
+abbrev pub answerOf : Plan → State → Answer
 answerOf = answerOver chosenBucket
 
 -- ---- what each case of an answer says in the rules

@@ -5,7 +5,7 @@ use Prim.Native.Nat.{ℕ}
 use Rattle.bucket_choice.specs.Choice.{Choice, chosenBucket, firstBucket}
 use Rattle.bucket_choice.specs.Chosen.{NamesContaining}
 use Rattle.bucket_test.specs.Answers.{answerOver, isEnding, refusalOf, wordOf}
-use Rattle.bucket_test.specs.Draw.{Outcome, reportOver}
+use Rattle.bucket_test.specs.Draw.{Outcome, drawnOver, reportOver}
 use Rattle.bucket_test.specs.Carried.{carriedOver}
 use Rattle.bucket_test.specs.declared.State.{State}
 use Rattle.plan.specs.declared.Plan.{Plan}
@@ -28,12 +28,13 @@ pub record SameOutcome (a b : Outcome) : Type 0 where
   pub state-same : a .state ≡ b .state
   pub words-same : a .words ≡ b .words
 
--- with the one choice and with the other: the answers to every state, the reports on it, and what every list of draws comes to, from a
--- beginning on any words. So a test is decided at the same draw with both.
+-- with the one choice and with the other: the answers to every state, the reports on it, a draw to it with any words, and what every list of
+-- draws comes to, from a beginning on any words. So a test is decided at the same draw with both.
 pub record SameButBucket (p : Plan) (one other : Choice) : Type 0 where
   pub answers : (s : State) → SameAnswer (answerOver one p s) (answerOver other p s)
-  pub reports : (s : State) → SameReport (reportOver (answerOver one) p s) (reportOver (answerOver other) p s)
-  pub carries : (words ds : List ℕ) → SameOutcome (carriedOver (answerOver one) p words ds) (carriedOver (answerOver other) p words ds)
+  pub reports : (s : State) → SameReport (reportOver one p s) (reportOver other p s)
+  pub draws : (s : State) (words : List ℕ) (d : ℕ) → SameOutcome (drawnOver one p s words d) (drawnOver other p s words d)
+  pub carries : (words ds : List ℕ) → SameOutcome (carriedOver one p words ds) (carriedOver other p words ds)
 
 -- of every plan, and any two choices that name a bucket that contains the interval exactly where there is one
 abbrev pub AnyChoiceTheorem : Type 0

@@ -7,9 +7,10 @@ use Rattle.walk.specs.Numbers.{le?}
 use Rattle.walk.specs.Record.{startPart}
 use Rattle.plan.specs.Places.{allTo, unless, firstRefusal, overTo, joinTo}
 use Rattle.plan.specs.Plan.{countLimit, planRefusal}
+use Rattle.bucket_choice.specs.Choice.{Choice, chosenBucket}
 use Rattle.bucket_test.specs.Words.{wordsFit}
 use Rattle.bucket_test.specs.Turn.{startRecord, noRecord, recordAt, recordTurn, partTurn, recordSoundAt}
-use Rattle.bucket_test.specs.Answers.{lowOf, highOf, Rule, answerOf, isEnding}
+use Rattle.bucket_test.specs.Answers.{lowOf, highOf, answerOver, isEnding}
 use Rattle.bucket_test.specs.declared.Threshold.{Threshold}
 use Rattle.bucket_test.specs.declared.State.{State}
 use Rattle.plan.specs.declared.Plan.{Plan}
@@ -50,17 +51,17 @@ noState = tenOf noRecord
 unfoldable pub beginRefusal : Plan → List ℕ → ℕ
 beginRefusal p words = firstRefusal (planRefusal p ∷ unless (wordsFit p words) 8 ∷ [])
 
--- over an answer rule, and by the test's own
-module _ (rule : Rule) where
+-- with any choice of buckets; then with the test's
+module _ (choice : Choice) where
   abbrev pub begunBy : ℕ → Plan → List ℕ → Outcome
-  begunBy zero p words = record { answer = rule p startState; state = startState; words = startWords p }
+  begunBy zero p words = record { answer = answerOver choice p startState; state = startState; words = startWords p }
   begunBy (suc r) p words = record { answer = Refused (suc r); state = noState; words = words }
 
   unfoldable pub begunOver : Plan → List ℕ → Outcome
   begunOver p words = begunBy (beginRefusal p words) p words
 
 abbrev pub begun : Plan → List ℕ → Outcome
-begun = begunOver answerOf
+begun = begunOver chosenBucket
 
 -- ---- a draw: plan, 8, 9, 10, 11
 
@@ -82,41 +83,42 @@ nextState p s words d = record {
 unfoldable pub nextWords : Plan → State → List ℕ → ℕ → List ℕ
 nextWords p s words d = joinTo (p .count) (λ i. partTurn p words (suc (s .n)) (s .ones + d) i (recordAt s i))
 
--- over an answer rule, and by the test's own
-module _ (rule : Rule) where
+-- with any choice of buckets; then with the test's
+module _ (choice : Choice) where
   unfoldable pub drawRefusalOver : Plan → State → List ℕ → ℕ → ℕ
   drawRefusalOver p s words d =
       firstRefusal (
       planRefusal p
       ∷ unless (wordsFit p words) 8
       ∷ unless (le? d 1) 9
-      ∷ unless (not (isEnding (rule p s))) 10
+      ∷ unless (not (isEnding (answerOver choice p s))) 10
       ∷ unless (stateSound p s words) 11
       ∷ []
       )
 
   abbrev pub drawnBy : ℕ → Plan → State → List ℕ → ℕ → Outcome
-  drawnBy zero p s words d = record { answer = rule p (nextState p s words d); state = nextState p s words d; words = nextWords p s words d }
+  drawnBy zero p s words d = record { answer = answerOver choice p (nextState p s words d); state = nextState p s words d; words = nextWords p s words d }
   drawnBy (suc r) p s words d = record { answer = Refused (suc r); state = s; words = words }
 
   unfoldable pub drawnOver : Plan → State → List ℕ → ℕ → Outcome
   drawnOver p s words d = drawnBy (drawRefusalOver p s words d) p s words d
 
 abbrev pub drawRefusal : Plan → State → List ℕ → ℕ → ℕ
-drawRefusal = drawRefusalOver answerOf
+drawRefusal = drawRefusalOver chosenBucket
 
 abbrev pub drawn : Plan → State → List ℕ → ℕ → Outcome
-drawn = drawnOver answerOf
+drawn = drawnOver chosenBucket
 
 -- ---- the answer to a state as it stands, with its interval
 
-module _ (rule : Rule) where
+-- with any choice of buckets; then with the test's
+module _ (choice : Choice) where
   abbrev pub reportBy : ℕ → Plan → State → Report
-  reportBy zero p s = record { answer = rule p s; low = lowOf p s; high = highOf p s }
+  reportBy zero p s = record { answer = answerOver choice p s; low = lowOf p s; high = highOf p s }
   reportBy (suc r) p s = record { answer = Refused (suc r); low = 0; high = 0 }
 
   unfoldable pub reportOver : Plan → State → Report
   reportOver p s = reportBy (planRefusal p) p s
 
 abbrev pub report : Plan → State → Report
-report = reportOver answerOf
+report = reportOver chosenBucket
