@@ -8,7 +8,7 @@ use Rattle.walk.specs.Numbers.{lt?}
 use Rattle.walk.proofs.Tests.{clash, le?-complete, le?-fails}
 use Rattle.plan.specs.Places.{eq?, largestTo, smallestTo}
 use Rattle.plan.specs.Plan.{leftAt, rightAt}
-use Rattle.bucket_choice.specs.Choice.{chosenBucket}
+use Rattle.bucket_choice.specs.Choice.{Choice, chosenBucket}
 use Rattle.bucket_choice.proofs.ChoiceLaws.{chosen-cong}
 use Rattle.bucket_test.specs.Turn.{recordAt, wideOpen}
 use Rattle.bucket_test.specs.Answers.{lowOf, highOf, anyWide, firstThatFits, answerBy, answerOver, answerOf, isEnding, refusalOf}
@@ -26,7 +26,14 @@ pub smallest-more : (i : ℕ) (f : ℕ → ℕ) (most x : ℕ) → x ≡ smalles
 unfolding smallestTo
 smallest-more i f most x e = rw (add-one i, e)
 
--- ---- the answer rule, case by case
+-- ---- the answer rule, with any choice of buckets
+
+pub rule-with : (choice : Choice) (p : Plan) (s : State) → let j = choice p (lowOf p s) (highOf p s) in
+    answerOver choice p s ≡ firstThatFits (lt? (highOf p s) (lowOf p s)) (lt? j (p .buckets)) j (anyWide p s) (eq? (s .n) (p .horizon))
+unfolding answerOver answerBy
+rule-with choice p s = refl
+
+-- ---- case by case
 
 module _ (p : Plan) (s : State) (low high : ℕ) (low-is : low ≡ lowOf p s) (high-is : high ≡ highOf p s) where
   rule : answerOf p s ≡ answerBy p s low high (chosenBucket p low high)
@@ -70,8 +77,9 @@ first-says false false j false false = (refl, λ f. (refl, refl))
 
 module _ (p : Plan) (s : State) where
   rule-says : (refusalOf (answerOf p s) ≡ 0) × (isEnding (answerOf p s) ≡ false → (anyWide p s ≡ false) × (eq? (s .n) (p .horizon) ≡ false))
-  unfolding answerOver answerBy
-  rule-says = let j = chosenBucket p (lowOf p s) (highOf p s) in first-says (lt? (highOf p s) (lowOf p s)) (lt? j (p .buckets)) j _ _
+  rule-says =
+      let j = chosenBucket p (lowOf p s) (highOf p s) in
+      rw (rule-with chosenBucket p s) (first-says (lt? (highOf p s) (lowOf p s)) (lt? j (p .buckets)) j (anyWide p s) (eq? (s .n) (p .horizon)))
 
   pub rule-answers : refusalOf (answerOf p s) ≡ 0
   rule-answers = rule-says .0

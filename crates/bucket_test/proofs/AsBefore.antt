@@ -11,13 +11,14 @@ use Rattle.plan.specs.Plan.{planRefusal}
 use Rattle.bucket_choice.specs.Choice.{Choice, chosenBucket, firstBucket}
 use Rattle.bucket_choice.specs.Chosen.{NamesContaining}
 use Rattle.bucket_choice.proofs.Choices.{choices}
-use Rattle.bucket_test.specs.Answers.{lowOf, highOf, anyWide, firstThatFits, answerBy, answerOver}
+use Rattle.bucket_test.specs.Answers.{lowOf, highOf, anyWide, firstThatFits, answerOver}
 use Rattle.bucket_test.specs.Draw.{startState, beginRefusal, begunBy, begunOver, drawRefusalOver, nextState, drawnBy, drawnOver, reportBy, reportOver}
 use Rattle.bucket_test.specs.Carried.{carriedOver}
 use Rattle.bucket_test.specs.AsBefore.{SameAnswer, SameReport, SameOutcome, AnyChoiceTheorem, AsBeforeTheorem}
 use Rattle.bucket_test.specs.declared.State.{State}
 use Rattle.plan.specs.declared.Plan.{Plan}
 use Rattle.bucket_test.specs.declared.Answer.{Answer}
+use Rattle.bucket_test.proofs.AnsweringLaws.{rule-with}
 
 same : (a : Answer) → SameAnswer a a
 same a = record { number-same = refl; word-same = refl; ending-same = refl }
@@ -42,9 +43,8 @@ module _ (p : Plan) (one other : Choice) (a : NamesContaining one p) (b : NamesC
       go (gt h) (gt k) = refl
 
   answer-same : (s : State) → SameAnswer (answerOver one p s) (answerOver other p s)
-  unfolding answerOver answerBy
   answer-same s =
-      rw (named-same (lowOf p s) (highOf p s))
+      rw (rule-with one p s, rule-with other p s, named-same (lowOf p s) (highOf p s))
       (same-fits (lt? (highOf p s) (lowOf p s)) (lt? (other p (lowOf p s) (highOf p s)) (p .buckets)) _ _ (anyWide p s) (eq? (s .n) (p .horizon)))
 
   report-same : (s : State) → SameReport (reportOver one p s) (reportOver other p s)

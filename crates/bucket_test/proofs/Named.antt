@@ -9,12 +9,13 @@ use Rattle.plan.specs.Places.{eq?}
 use Rattle.bucket_choice.specs.Choice.{chosenBucket}
 use Rattle.bucket_choice.specs.Chosen.{Contains, Chosen}
 use Rattle.bucket_choice.proofs.Choices.{choices}
-use Rattle.bucket_test.specs.Answers.{lowOf, highOf, anyWide, firstThatFits, answerBy, answerOver, answerOf, bucketOf}
+use Rattle.bucket_test.specs.Answers.{lowOf, highOf, anyWide, firstThatFits, answerOf, bucketOf}
 use Rattle.bucket_test.specs.Named.{NamedTheorem}
 use Rattle.bucket_test.specs.declared.State.{State}
 use Rattle.plan.specs.declared.Plan.{Plan}
 use Rattle.bucket_test.specs.declared.Answer.{Answer}
 use Rattle.bucket_test.specs.declared.Answer.the-variants.{Open, Decided, Crossed, Wide, Spent, Refused}
+use Rattle.bucket_test.proofs.AnsweringLaws.{rule-with}
 
 abbrev isDecided : Answer → Bool
 isDecided Open = false
@@ -61,8 +62,9 @@ module _ (p : Plan) (s : State) where
   )
 
   which : (b : ℕ) → Which (answerOf p s) b
-  unfolding answerOver answerBy
-  which = by-tests (test (suc high) low) (test (suc place) (p .buckets)) (anyWide p s) (eq? (s .n) (p .horizon))
+  which b =
+      rw (rule-with chosenBucket p s)
+      (by-tests (test (suc high) low) (test (suc place) (p .buckets)) (anyWide p s) (eq? (s .n) (p .horizon)) b)
 
 pub named : NamedTheorem
 named p s = record {
