@@ -105,7 +105,8 @@ module _ {p : Plan} {low high : ℕ} where
     held-first (nothing none) h e = best (best-here p low high n h (λ i m g. absurd (none i m g)))
     held-first (best b) h e = absurd (omega (arith, b .contains-it .inside))
 
-    pub held-now : {k : ℕ} → Held p low high n k → Contains p low high n → ¬ (k ≡ p .buckets) → widthAt p n < widthAt p k → Held p low high (suc n) n
+    pub held-now : {k : ℕ} → Held p low high n k → Contains p low high n → ¬ (k ≡ p .buckets) → widthAt p n < widthAt p k
+        → Held p low high (suc n) n
     held-now (nothing none) h some narrow = absurd (some refl)
     held-now (best b) h some narrow = best (best-here p low high n h (λ i m g. omega (arith, b .none-narrower i m g)))
 

@@ -55,5 +55,6 @@ module _ (p : Plan) (ok : Accepted p) where
   pub start-open : answerOf p startState ≡ Open
   unfolding startState
   start-open =
-      sym (open-yet p startState 0 million (sym start-low) (sym start-high) (omega arith) (p .buckets) (sym (chosen-none p 0 million none-contains)) (omega arith) (sym start-thin)
+      sym (open-yet p startState 0 million (sym start-low) (sym start-high) (omega arith) (p .buckets)
+      (sym (chosen-none p 0 million none-contains)) (omega arith) (sym start-thin)
       (λ e. omega (arith, ok .horizon-range, e)))

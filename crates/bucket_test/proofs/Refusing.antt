@@ -33,6 +33,7 @@ pub refused-stays : (p : Plan) (s : State) (words : List ℕ) (d : ℕ) → ¬ (
 unfolding drawnOver
 refused-stays p s words d = go (drawRefusal p s words d)
   where
-    go : (r : ℕ) → ¬ (refusalOf (drawnBy chosenBucket r p s words d .answer) ≡ 0) → (drawnBy chosenBucket r p s words d .state ≡ s) × (drawnBy chosenBucket r p s words d .words ≡ words)
+    go : (r : ℕ) → ¬ (refusalOf (drawnBy chosenBucket r p s words d .answer) ≡ 0)
+        → (drawnBy chosenBucket r p s words d .state ≡ s) × (drawnBy chosenBucket r p s words d .words ≡ words)
     go zero e = absurd (e (rule-answers p (nextState p s words d)))
     go (suc r) e = (refl, refl)

@@ -1,5 +1,5 @@
--- Interval and answer of a state under a plan (rules 7). The state may be any; thresholds of an accepted plan
--- are below 1,000,000.
+-- Interval and answer of a state under a plan (rules 7); which bucket is named is in bucket_choice/specs/Choice. The state may be any; thresholds of
+-- an accepted plan are below 1,000,000.
 use mathlib.Core.Bool.{Bool, true, false}
 use mathlib.Core.List.{List, [], _∷_}
 use Prim.Native.Nat.{ℕ, suc}

@@ -44,9 +44,12 @@ stateMarked ms = record {
 abbrev planOfFour : Plan
 planOfFour = planWith (10000 ∷ 50000 ∷ []) 4398046511 200 4 (0 ∷ 0 ∷ 10000 ∷ 50000 ∷ []) (50000 ∷ 10000 ∷ 1000000 ∷ 1000000 ∷ [])
 
--- the bucket's number, low and high of the answer to the state s
+-- low and high of the state s; the bucket's number of the answer to it, and these
+abbrev interval : Plan → State → List ℤ
+interval p s = pos (lowOf p s) ∷ pos (highOf p s) ∷ []
+
 abbrev answered : Plan → State → List ℤ
-answered p s = pos (bucketOf (answerOf p s)) ∷ pos (lowOf p s) ∷ pos (highOf p s) ∷ []
+answered p s = pos (bucketOf (answerOf p s)) ∷ interval p s
 
 -- the upper and the lower boundary of step t
 abbrev boundaries : ℕ → (ℕ → ℕ) → ℕ → List ℤ
@@ -76,7 +79,7 @@ computed =
     ∷ boundaries 400000 spending5 2
     ∷ boundaries 400000 spending5 3
     -- P7: low and high
-    ∷ (pos (lowOf (planOfTwo 4398046511 50000) (stateMarked (Above 5 ∷ Open ∷ []))) ∷ pos (highOf (planOfTwo 4398046511 50000) (stateMarked (Above 5 ∷ Open ∷ []))) ∷ [])
+    ∷ interval (planOfTwo 4398046511 50000) (stateMarked (Above 5 ∷ Open ∷ []))
     -- P8: the word
     ∷ map pos (wordOf (answerOf (planOfTwo 4398046511 50000) (stateMarked (AtMost 5 ∷ Above 5 ∷ []))))
     -- P9

@@ -4,7 +4,6 @@ use mathlib.Core.Logic.{_⊎_, inl, inr}
 use mathlib.Core.Bool.{Bool, true, false}
 use Prim.Native.Nat.{ℕ, zero, suc, _+_, _-_, _≤_, _<_}
 use native.Mathlib.Nat.{eq-or-lt-of-le, add-zero, add-suc, suc-add}
-use native.Mathlib.Numerals.{add-one}
 use native.Mathlib.Omega.{arith}
 use Rattle.walk.specs.Numbers.{le?, choose, Smallest, Largest, searchUp, searchDown}
 use Rattle.walk.proofs.Tests.{clash, le?-sound, le?-complete}
@@ -50,16 +49,6 @@ search-miss (suc n) j test i l h = go (test j) refl h (eq-or-lt-of-le l) (search
     go true e h k rest = absurd (omega arith)
     go false e h (inl q) rest = rw (← q) e
     go false e h (inr k) rest = rest k h
-
--- at place j of n: it stops, or it goes on
-pub search-stops : (n j : ℕ) (test : ℕ → Bool) → (j < n → test j ≡ true) → searchUp (n - j) j test ≡ j
-search-stops n j test e = search-only (n - j) j j test (omega arith) (omega arith) (λ l. e (omega arith)) (λ i l k. absurd (omega arith))
-
-pub search-more : (n j : ℕ) (test : ℕ → Bool) → j < n → test j ≡ false → searchUp (n - j) j test ≡ searchUp (n - (j + 1)) (j + 1) test
-unfolding searchUp
-search-more n j test l e =
-    let s : n - j ≡ suc (n - suc j) = omega arith in
-    rw (add-one j, s, e)
 
 -- two tests that agree at each place
 pub search-cong : (n j : ℕ) (f g : ℕ → Bool) → ((i : ℕ) → i < j + n → f i ≡ g i) → searchUp n j f ≡ searchUp n j g
