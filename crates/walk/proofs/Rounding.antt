@@ -5,8 +5,9 @@ use Prim.Native.Nat.{ℕ, _+_, _*_, _-_, _/_, _%_, _≤_}
 use native.Mathlib.Nat.{mul-add, mul-le-mul-right}
 use native.Mathlib.Omega.{arith}
 use Rattle.walk.specs.Numbers.{lt?, only}
-use Rattle.walk.specs.Units.{million}
+use Rattle.walk.specs.Units.{million, massLimit}
 use Rattle.walk.specs.Mass.{rounds, roundUp, reaching, massUp, rounded}
+use Rattle.walk.specs.MassLine.{wordEnd, almostOne, MassLineTheorem}
 use Rattle.walk.proofs.Tests.{test, Le?, le, gt, only-le}
 
 -- the addition before the division
@@ -68,3 +69,21 @@ module _ (a stay come : ℕ) where
     pub mass-small : massUp a stay come ≤ b
     unfolding massUp million
     mass-small = rw (← (round-up-is (reaching a stay come))) (omega (arith, reaching-small))
+
+-- the line: what it divides is at most 2^43 million and 999999
+pub mass-line : MassLineTheorem
+unfolding wordEnd almostOne million massLimit massUp reaching
+mass-line a stay come threshold hs hc =
+    let small = reaching-small a stay come threshold massLimit hs hc in
+    record {
+      stay-fits = omega (arith, small);
+      come-fits = omega (arith, small);
+      sum-fits = omega (arith, small);
+      rounded-up = record {
+        from = omega arith;
+        to = omega (arith, small);
+        holds = omega arith;
+        first = λ (units : ℕ) lo hi no-less. omega (arith, no-less);
+      };
+      same = omega (arith, round-up-is (reaching a stay come));
+    }

@@ -3,6 +3,7 @@ pub mod Numbers
 pub mod Units
 pub mod Spending
 pub mod Mass
+pub mod MassLine
 pub mod Walk
 pub mod Row
 pub mod Strings

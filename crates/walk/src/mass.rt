@@ -13,12 +13,9 @@ const ALMOST_ONE: u64 = MILLIONTHS - 1;
 
 // The mass that stays at a count with each draw 0 and the mass that comes from the count before with each draw 1: their sum is rounded
 // up once, so that no mass is lost. Live words are at most 2^43.
-pub(crate) fn mass_up(a: u32, stay: u64, come: u64) -> u64
+pub(crate) fn mass_up(a: u64, stay: u64, come: u64) -> u64
     requires { ⌜ (a ≤ million) × (stay ≤ massLimit) × (come ≤ massLimit) ⌝ }
     ensures { λ r. ⌜ r ≡ massUp a stay come ⌝ }
 {
-    let up = a as u64;
-    let stays = stay * (MILLIONTHS - up);
-    let comes = come * up;
-    (stays + comes + ALMOST_ONE) / MILLIONTHS
+    (stay * (MILLIONTHS - a) + come * a + ALMOST_ONE) / MILLIONTHS
 }

@@ -26,7 +26,7 @@ pub(crate) struct Cut {
 }
 
 // New masses, in place (rules 3.3): n live masses become n + 1 new ones. `step` keeps what it and the others here require.
-pub(crate) fn spread(part: &mut [u64], n: usize, a: u32)
+pub(crate) fn spread(part: &mut [u64], n: usize, a: u64)
     requires { ⌜ (n < length (now part)) × (a ≤ million) × (allUpTo massLimit (take n (now part)) ≡ true) ⌝ }
     ensures { λ r. ⌜ now (part .exit) ≡ newMasses a (take n (now (part .entry))) ++ drop (n + 1) (now (part .entry)) ⌝ }
 {
@@ -34,13 +34,11 @@ pub(crate) fn spread(part: &mut [u64], n: usize, a: u32)
     let mut i = 0;
     while i < n {
         let x = part[i];
-        let m = mass_up(a, x, prev);
-        part[i] = m;
+        part[i] = mass_up(a, x, prev);
         prev = x;
         i += 1;
     }
-    let m = mass_up(a, 0, prev);
-    part[n] = m;
+    part[n] = mass_up(a, 0, prev);
 }
 
 // The upper boundary (rules 3.4): masses are taken off the top while they and the upper spent mass are at most e.

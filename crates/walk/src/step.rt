@@ -38,7 +38,7 @@ pub fn step(part: &mut [u64], w: Walked, a: u32, e: u64) -> Walked
 {
     let first = first_above(w.lower);
     let n = (w.upper - first) as usize;
-    spread(part, n, a);
+    spread(part, n, a as u64);
     let m = n + 1;
     let cut = trim(part, m, w.over, w.under, e);
     let lower = raised(w.lower, cut.lo);
