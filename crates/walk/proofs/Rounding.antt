@@ -70,7 +70,7 @@ module _ (a stay come : ℕ) where
     unfolding massUp million
     mass-small = rw (← (round-up-is (reaching a stay come))) (omega (arith, reaching-small))
 
--- the line: what it divides is at most 2^43 million and 999999
+-- the line: what it divides is at most 2^43 × 1,000,000 + 999,999
 pub mass-line : MassLineTheorem
 unfolding wordEnd almostOne million massLimit massUp reaching
 mass-line a stay come threshold hs hc =

@@ -9,11 +9,11 @@ use Rattle.walk.specs.Mass.{reaching, massUp}
 unfoldable pub wordEnd : ℕ
 wordEnd = 2 ^ 64
 
--- the most millionths of a unit that are less than a unit
+-- what is added before the division: a millionth of a unit less than a unit
 unfoldable pub almostOne : ℕ
 almostOne = 999999
 
--- what the line divides, and the line
+-- what the line divides, and the line; `stay` is the old mass at the count, `come` that at the count before
 abbrev pub lineSum : ℕ → ℕ → ℕ → ℕ
 lineSum a stay come = stay * (million - a) + come * a + almostOne
 
@@ -25,7 +25,7 @@ pub record LineFacts (a stay come : ℕ) : Type 0 where
   pub stay-fits : stay * (million - a) < wordEnd
   pub come-fits : come * a < wordEnd
   pub sum-fits : lineSum a stay come < wordEnd
-  -- the exact quotient, rounded up: the fewest units that are no less than what reaches the count ..
+  -- the exact quotient, rounded up: the fewest units, 2^43 at most, that are no less than what reaches the count ..
   pub rounded-up : Smallest (λ (units : ℕ). reaching a stay come ≤ units * million) 0 massLimit (massLine a stay come)
   -- .. and so the new mass, which is defined by the remainder
   pub same : massLine a stay come ≡ massUp a stay come

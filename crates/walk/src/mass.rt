@@ -6,10 +6,10 @@ ghost use Prim.Native.Nat.{_≤_};
 ghost use Rattle.walk.specs.Units.{million, massLimit};
 ghost use Rattle.walk.specs.Mass.{massUp};
 
-// One unit in millionths of a unit, and the most that is less.
+// A unit in millionths of a unit, and one millionth less.
 const MILLIONTHS: u64 = MILLION as u64;
 
-const ALMOST_ONE: u64 = MILLIONTHS - 1;
+const ALMOST_ONE: u64 = 999999;
 
 // The mass that stays at a count with each draw 0 and the mass that comes from the count before with each draw 1: their sum is rounded
 // up once, so that no mass is lost. Live words are at most 2^43.
