@@ -158,7 +158,10 @@ pub fn walk(a: u128, limit: u128, t: i64, r: &mut Record, part: &mut [u64], faul
         true => part.get((s - lower - 1) as usize).copied().unwrap_or(0) as u128,
         false => 0,
     };
-    let mass = |s: &i64| (old(*s) * (MILLION - a) + old(*s - 1) * a + MILLION - 1) / MILLION;
+    let mass = |s: &i64| {
+        let sum = old(*s) * (MILLION - a) + old(*s - 1) * a;
+        sum / MILLION + (sum % MILLION > 0) as u128
+    };
     let new: Vec<u128> = counts.iter().map(mass).collect();
     let mut sums = vec![0u128];
     for mass in &new {

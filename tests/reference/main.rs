@@ -31,6 +31,7 @@ mod overlap;
 mod plan;
 mod random;
 mod rng;
+mod rounding;
 mod runner;
 mod scenes;
 mod selfcheck;
@@ -53,6 +54,7 @@ const USAGE: &str = "usage: reference COMMAND
   counting [--seed N]   the library's runs that count to a p-value, and their shares over all orders
   gandy [--seed N]      the library's boundaries and the mean draws beside the published ones
   narrower [--seed N]   the library's bucket where several contain the interval, against the reference
+  rounding [--seed N]   the library's new masses where their sums leave chosen remainders, against the reference
   spoiled [--seed N]    the library's entries on spoiled states, against the reference";
 
 const SEED: u64 = 20_251;
@@ -100,6 +102,7 @@ fn main() {
         "counting" => counting::run(seed()),
         "gandy" => gandy::run(seed()),
         "narrower" => narrower::run(seed()),
+        "rounding" => rounding::run(seed()),
         "spoiled" => spoiled::run(seed()),
         other => usage(&format!("{other}: no such command")),
     };
