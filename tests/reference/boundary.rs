@@ -114,7 +114,7 @@ const NARROW: u64 = MILLION as u64;
 
 #[inline(always)]
 fn slipped(slip: Slip, stay: u64, rise: u64) -> u64 {
-    let up = |over: u64| (over + NARROW - 1) / NARROW;
+    let up = |over: u64| over.div_ceil(NARROW);
     match slip {
         Slip::RoundDown => (stay + rise) / NARROW,
         Slip::RoundNearest => (stay + rise + NARROW / 2) / NARROW,
