@@ -9,13 +9,11 @@ use crate::lapses::{lapses, Judged, Lapse};
 use crate::plan::{parsed, read, WHOLE};
 use crate::rng::Rng;
 use crate::scenes::plan_past_counts;
-use crate::tally::{conclude, Counts};
+use crate::tally::{conclude, Counts, Differing};
 use std::collections::BTreeSet;
 use std::time::Instant;
 
 const PLANS: u64 = 20_000;
-/// Calls that are printed.
-const SHOWN: u64 = 3;
 /// How often each row must come up with each entry.
 const NEEDED: u64 = 200;
 
@@ -151,7 +149,7 @@ impl Row {
 struct Tally {
     counts: Counts<(Row, Entry)>,
     calls: u64,
-    differ: u64,
+    differ: Differing,
 }
 
 fn shown(case: &Case) -> String {
@@ -163,12 +161,7 @@ impl Tally {
     fn compare(&mut self, entry: Entry, case: &Case, expected: u32) -> u32 {
         let got = entry.call(case);
         self.calls += 1;
-        if got != expected {
-            self.differ += 1;
-            if self.differ <= SHOWN {
-                println!("DIFFERS: {entry:?}: {got} for {expected}: {}", shown(case));
-            }
-        }
+        self.differ.note(got == expected, || format!("{entry:?}: {got} for {expected}: {}", shown(case)));
         got
     }
 
@@ -210,9 +203,7 @@ impl Tally {
             let seldom = entry.rows().into_iter().filter(|row| count(row) < NEEDED);
             out.extend(seldom.map(|row| format!("seldom, {entry:?}: {}", row.name())));
         }
-        if self.differ > 0 {
-            out.push(format!("{} calls differ", self.differ));
-        }
+        out.extend(self.differ.fault());
         out
     }
 }

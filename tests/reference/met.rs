@@ -2,10 +2,8 @@
 
 use crate::host::{Run, RUN_ENDED, RUN_OPEN, RUN_REFUSED};
 use crate::limits::{mistakes, mistakes_of_begin, name, Call, LIMITS, NEVER_TAKEN, RANGES};
-use crate::tally::{named, Counts};
+use crate::tally::{named, Counts, Differing};
 
-/// Differences that are printed.
-const SHOWN: u64 = 3;
 /// How often each mistake must be noticed.
 const NOTICED: u64 = 100;
 
@@ -55,7 +53,7 @@ pub struct Met {
     ranges: [[u64; 3]; 9],
     noticed: Counts<(&'static str, String)>,
     calls: u64,
-    differ: u64,
+    differ: Differing,
 }
 
 /// Where a call stands to each limit.
@@ -79,12 +77,7 @@ impl Met {
     pub fn note(&mut self, group: &'static str, got: &Run, same: bool, show: impl FnOnce() -> String) {
         self.calls += 1;
         *self.counts.entry((group, kind(got))).or_default() += 1;
-        if !same {
-            self.differ += 1;
-            if self.differ <= SHOWN {
-                println!("DIFFERS: {group}: {}", show());
-            }
-        }
+        self.differ.note(same, || format!("{group}: {}", show()));
     }
 
     pub fn note_end(&mut self, end: &Run) {
@@ -151,9 +144,7 @@ impl Met {
             let seldom = list.into_iter().map(name).filter(|fault| noticed.get(fault).map_or(true, |n| *n < NOTICED));
             out.extend(seldom.map(|fault| format!("{group}: seldom noticed: {fault}")));
         }
-        if self.differ > 0 {
-            out.push(format!("{} calls differ", self.differ));
-        }
+        out.extend(self.differ.fault());
         out
     }
 }

@@ -12,15 +12,13 @@ use crate::overlap::{any_marks, before_marks, marked, overlapping_draft, overlap
 use crate::plan::Bucket;
 use crate::rng::Rng;
 use crate::scenes::Scene;
-use crate::tally::{conclude, sized, Counts};
+use crate::tally::{conclude, sized, Counts, Differing};
 use std::time::Instant;
 
 const PLANS: u64 = 8000;
 /// States of each plan that are reported on, beside the one that takes a draw.
 const STATES: u64 = 3;
 const TESTS: u64 = 600;
-/// Calls that are printed.
-const SHOWN: u64 = 3;
 
 /// The rule that was replaced: all but the number must come out the same by it.
 const OLD: Fault = Fault::Choice(Choice::First);
@@ -73,7 +71,7 @@ struct Tally {
     thresholds: Counts<u32>,
     buckets: Counts<u32>,
     calls: u64,
-    differ: u64,
+    differ: Differing,
     /// Calls in which the choice changes more than the bucket's number.
     more_changed: u64,
 }
@@ -88,9 +86,8 @@ impl Tally {
     }
 
     /// One call compared, and what the answer is like. Of the rule of old all but the number is the same.
-    fn note(&mut self, entry: Entry, p: &Plan, expected: &Report, same: bool, as_before: bool) {
+    fn note(&mut self, entry: Entry, p: &Plan, expected: &Report, as_before: bool) {
         self.calls += 1;
-        self.differ += !same as u64;
         self.more_changed += !as_before as u64;
         self.count(entry, kind(expected.answer, expected.number), true);
         if expected.answer == DECIDED {
@@ -99,12 +96,6 @@ impl Tally {
             for (name, is) in MET {
                 self.count(entry, name.into(), is(&decided));
             }
-        }
-    }
-
-    fn show(&self, same: bool, what: impl FnOnce() -> String) {
-        if !same && self.differ < SHOWN {
-            println!("DIFFERS: {}", what());
         }
     }
 
@@ -133,9 +124,7 @@ impl Tally {
         if self.more_changed > 0 {
             out.push(format!("{} answers in which the choice changes more than the number", self.more_changed));
         }
-        if self.differ > 0 {
-            out.push(format!("{} calls differ", self.differ));
-        }
+        out.extend(self.differ.fault());
         out
     }
 }
@@ -148,10 +137,10 @@ fn but_bucket(answer: u32, number: u32) -> u32 {
 fn compare_report(tally: &mut Tally, p: &Plan, s: &State) {
     let got = host::report_on(*p, *s);
     let expected = judge::report_on(p, s, Fault::None);
-    tally.show(got == expected, || format!("report_on: {got:?} for {expected:?}: {p:?} {s:?}"));
+    tally.differ.note(got == expected, || format!("report_on: {got:?} for {expected:?}: {p:?} {s:?}"));
     let but_bucket = |r: Report| Report { number: but_bucket(r.answer, r.number), ..r };
     let as_before = but_bucket(judge::report_on(p, s, OLD)) == but_bucket(expected);
-    tally.note(Entry::ReportOn, p, &expected, got == expected, as_before);
+    tally.note(Entry::ReportOn, p, &expected, as_before);
     for choice in CHOICES {
         let wrong = judge::report_on(p, s, Fault::Choice(choice));
         tally.count(Entry::ReportOn, noticed(choice), wrong != got);
@@ -172,14 +161,13 @@ fn compare_draw(tally: &mut Tally, entry: Entry, scene: &Scene) -> Outcome {
     let mut words = scene.words.clone();
     let got = (host::draw(*p, scene.state, &mut words, scene.draw), words);
     let expected = judged(scene, Fault::None);
-    let same = got == expected;
-    tally.show(same, || format!("{entry:?}: {:?} for {:?}: {p:?} {:?}", got.0, expected.0, scene.state));
+    tally.differ.note(got == expected, || format!("{entry:?}: {:?} for {:?}: {p:?} {:?}", got.0, expected.0, scene.state));
     let before = judged(scene, OLD);
     let but_bucket = |s: &State| State { number: but_bucket(s.answer, s.number), ..*s };
     let as_before = but_bucket(&before.0) == but_bucket(&expected.0) && before.1 == expected.1;
     let State { answer, number, .. } = expected.0;
     let interval = judge::report_on(p, &expected.0, Fault::None);
-    tally.note(entry, p, &Report { answer, number, ..interval }, same, as_before);
+    tally.note(entry, p, &Report { answer, number, ..interval }, as_before);
     got
 }
 
@@ -218,7 +206,8 @@ fn carry(tally: &mut Tally, rng: &mut Rng) {
     let mut expected_words = words.clone();
     let state = host::begin(plan, &mut words);
     let expected = judge::begin(&plan, &mut expected_words);
-    tally.differ += (state != expected || words != expected_words) as u64;
+    let same = state == expected && words == expected_words;
+    tally.differ.note(same, || format!("begin: {state:?} for {expected:?}: {plan:?}"));
     let mut scene = Scene { plan, state, words, draw: 0 };
     for draw in draws {
         scene.draw = draw as u8;
@@ -236,8 +225,7 @@ fn compare_examples(tally: &mut Tally) {
     for (draft, marks, interval, number, _) in MARKED {
         let (p, s) = (plan_of(&draft()), marked_state(marks));
         let (got, expected) = (host::report_on(p, s), marked_report(interval, number));
-        tally.show(got == expected, || format!("example: {got:?} for {expected:?}: {p:?} {marks}"));
-        tally.differ += (got != expected) as u64;
+        tally.differ.note(got == expected, || format!("example: {got:?} for {expected:?}: {p:?} {marks}"));
     }
 }
 

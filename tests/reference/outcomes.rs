@@ -3,10 +3,7 @@
 use crate::host::{State, CROSSED, DECIDED, OPEN, REFUSED, SPENT, WIDE};
 use crate::judge::{slacks, Fault, CLAUSES, NEVER_ALONE, NEVER_TAKEN};
 use crate::scenes::Scene;
-use crate::tally::{named, sized, Counts};
-
-/// Differences that are printed.
-const SHOWN: u64 = 3;
+use crate::tally::{named, sized, Counts, Differing};
 
 #[derive(Default)]
 pub struct Tally {
@@ -17,7 +14,7 @@ pub struct Tally {
     pub draws_by_k: Counts<u32>,
     pub draws: u64,
     calls: u64,
-    pub differ: u64,
+    pub differ: Differing,
 }
 
 pub fn kind(answer: u32, number: u32) -> String {
@@ -47,12 +44,7 @@ impl Tally {
     pub fn note(&mut self, group: &'static str, what: String, same: bool, show: impl FnOnce() -> String) {
         self.calls += 1;
         self.count(group, what);
-        if !same {
-            self.differ += 1;
-            if self.differ <= SHOWN {
-                println!("DIFFERS: {group}: {}", show());
-            }
-        }
+        self.differ.note(same, || format!("{group}: {}", show()));
     }
 
     /// Where the draw's state stands to each clause of refusal 11, once 1 to 9 let it through.

@@ -8,12 +8,10 @@ use crate::judge::{self, Fault, PART, WORD_LIMIT};
 use crate::plan::{LARGEST_ALLOWANCE, LEAST_APART, MILLION, WHOLE};
 use crate::rng::Rng;
 use crate::scenes::{made_up_with, Scene};
-use crate::tally::{conclude, named, sized, Counts};
+use crate::tally::{conclude, named, sized, Counts, Differing};
 use std::time::Instant;
 
 const CALLS: u64 = 20_000;
-/// Calls that are printed.
-const SHOWN: u64 = 3;
 /// How many calls must notice each mistake, and how many live cells must have each number of `MET`.
 const NEEDED: u64 = 1000;
 
@@ -168,19 +166,12 @@ fn any_scene(rng: &mut Rng) -> Scene {
 struct Tally {
     calls: u64,
     cells: u64,
-    differ: u64,
+    differ: Differing,
     met: [Counts<u128>; 4],
     noticed: Counts<&'static str>,
 }
 
 impl Tally {
-    fn differs(&mut self, what: String) {
-        self.differ += 1;
-        if self.differ <= SHOWN {
-            println!("DIFFERS: {what}");
-        }
-    }
-
     fn note(&mut self, cells: &[Cell]) {
         self.cells += cells.len() as u64;
         for ((_, of, numbers), counts) in MET.iter().zip(&mut self.met) {
@@ -201,9 +192,8 @@ impl Tally {
         let expected = judge::draw(p, s, &mut expected_words, scene.draw, Fault::None);
         let cells = cells(scene, &got, &words);
         let wrong = cells.iter().find(|cell| !cell.rounded_up());
-        if got != expected || words != expected_words || wrong.is_some() || got.answer == REFUSED {
-            self.differs(format!("{wrong:?}\n  {p:?}\n  {s:?}\n  library  {got:?}\n  expected {expected:?}"));
-        }
+        let same = got == expected && words == expected_words && wrong.is_none() && got.answer != REFUSED;
+        self.differ.note(same, || format!("{wrong:?}\n  {p:?}\n  {s:?}\n  library  {got:?}\n  expected {expected:?}"));
         self.calls += 1;
         self.note(&cells);
         words
@@ -219,9 +209,7 @@ impl Tally {
             state.n = masses.len() as u32 - 1;
             state.records[0].upper = masses.len() as u32;
             let got = self.compare(&Scene { plan, state, words, draw: 0 })[count];
-            if got != mass {
-                self.differs(format!("example {at}, {masses:?}, count {count}: {got} for {mass}"));
-            }
+            self.differ.note(got == mass, || format!("example {at}, {masses:?}, count {count}: {got} for {mass}"));
         }
     }
 
@@ -239,9 +227,7 @@ impl Tally {
         }
         let few = self.noticed.iter().filter(|(_, count)| **count < NEEDED);
         out.extend(few.map(|(name, _)| format!("seldom noticed: {name}")));
-        if self.differ > 0 {
-            out.push(format!("{} calls differ", self.differ));
-        }
+        out.extend(self.differ.fault());
         out
     }
 }

@@ -190,8 +190,6 @@ pub fn run(seed: u64) -> bool {
     println!("spoiled: seed {seed}, {:.1} s", began.elapsed().as_secs_f64());
     tally.print();
     let mut faults = tally.missing();
-    if tally.differ > 0 {
-        faults.push(format!("{} calls differ", tally.differ));
-    }
+    faults.extend(tally.differ.fault());
     conclude(&faults, "spoiled: all outcomes agree")
 }

@@ -26,6 +26,25 @@ fn listed<K: Display>(counts: &Counts<K>, joint: &str, between: &str) -> String 
     list.join(between)
 }
 
+/// Calls that differ from what is expected; the first of them are printed.
+#[derive(Default)]
+pub struct Differing(u64);
+
+impl Differing {
+    const SHOWN: u64 = 3;
+
+    pub fn note(&mut self, same: bool, show: impl FnOnce() -> String) {
+        self.0 += !same as u64;
+        if !same && self.0 <= Self::SHOWN {
+            println!("DIFFERS: {}", show());
+        }
+    }
+
+    pub fn fault(&self) -> Option<String> {
+        (self.0 > 0).then(|| format!("{} calls differ", self.0))
+    }
+}
+
 /// Prints the faults, or the line that says there are none.
 pub fn conclude(faults: &[String], agreed: &str) -> bool {
     for fault in faults {

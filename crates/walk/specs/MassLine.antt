@@ -13,7 +13,7 @@ wordEnd = 2 ^ 64
 unfoldable pub almostOne : ℕ
 almostOne = 999999
 
--- what the line divides, and the line; `stay` is the old mass at the count, `come` that at the count before
+-- what the line divides, written out as the code has it, and the line; `stay` is the old mass at the count, `come` that at the count before
 abbrev pub lineSum : ℕ → ℕ → ℕ → ℕ
 lineSum a stay come = stay * (million - a) + come * a + almostOne
 
