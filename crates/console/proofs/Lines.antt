@@ -11,8 +11,8 @@ use Rattle.io.specs.Digits.{digits, Fewest}
 use Rattle.walk.specs.Numbers.{le?, lt?}
 use Rattle.walk.proofs.Searches.{search-only}
 use Rattle.walk.proofs.Tests.{Le?, le, gt, test, le?-complete, le?-fails}
-use Rattle.stored_plan.specs.Little.{putAt}
-use Rattle.stored_plan.proofs.Putting.{then}
+use Rattle.little.specs.Little.{putAt}
+use Rattle.little.proofs.Putting.{then}
 use Rattle.bucket_test.specs.Answers.{Values, valuesOf}
 use Rattle.bucket_test.specs.declared.State.{State}
 use Rattle.bucket_test.specs.declared.Report.{Report}

@@ -13,7 +13,7 @@ use Rattle.bucket_test.specs.declared.Drawn.{Drawn}
 use Rattle.bucket_test.specs.declared.Report.{Report}
 use Rattle.bucket_test.specs.declared.Answer.{Answer}
 use Rattle.bucket_test.specs.declared.Answer.the-variants.{Open, Decided, Crossed, Wide, Spent, Refused}
-use Rattle.stored_plan.specs.Little.{putAt}
+use Rattle.little.specs.Little.{putAt}
 use Rattle.console.specs.Ascii.{newline, space}
 
 -- how many digits a number below 10^20 has

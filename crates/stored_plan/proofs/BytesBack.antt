@@ -9,13 +9,13 @@ use lib.Seq.{drop-drop, take-add, take-all}
 use Rattle.plan.specs.Places.{joinTo}
 use Rattle.plan.specs.Plan.{countLimit, bucketLimit}
 use Rattle.plan.proofs.PlaceLists.{join-cong}
-use Rattle.stored_plan.specs.Little.{toLE, field, column, Bytes}
+use Rattle.little.specs.Little.{toLE, field, column, Bytes, filled}
 use Rattle.stored_plan.specs.Form.{headerSize, thresholdEntrySize, bucketEntrySize, bucketOffset, formSize}
 use Rattle.stored_plan.specs.Form.{pair, header, thresholdEntries, bucketEntries, encoded}
-use Rattle.stored_plan.specs.Reading.{filled, countIn, bucketsIn, planIn, readRefusal}
-use Rattle.stored_plan.proofs.LittleLaws.{to-field}
+use Rattle.stored_plan.specs.Reading.{countIn, bucketsIn, planIn, readRefusal}
+use Rattle.little.proofs.LittleLaws.{to-field}
 use Rattle.stored_plan.proofs.FormLaws.{header-fits}
-use Rattle.stored_plan.proofs.ReadingLaws.{filled-get}
+use Rattle.little.proofs.FilledLaws.{filled-get}
 use Rattle.stored_plan.proofs.Refusals.{Offsets, Sized, readable}
 
 module _ (bytes : List ℕ) where

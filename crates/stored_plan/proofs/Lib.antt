@@ -1,10 +1,6 @@
--- Little-endian numbers, and bytes put into bytes.
-mod LittleLaws
-pub mod Putting
--- The form of a plan, what reading and writing refuse, and the fields that reading takes.
+-- The form of a plan, and what reading and writing refuse.
 mod FormLaws
 mod Refusals
-mod ReadingLaws
 -- The round trips.
 mod PlanBack
 mod BytesBack

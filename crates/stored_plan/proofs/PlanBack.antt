@@ -9,15 +9,16 @@ use Rattle.plan.specs.Plan.{countLimit, bucketLimit, thresholdAt, allowanceAt, 
 use Rattle.plan.specs.declared.Plan.{Plan}
 use Rattle.plan.proofs.AcceptedLaws.{accepted, permitted-le}
 use Rattle.plan.proofs.SameCountedLaws.{same-rules}
-use Rattle.stored_plan.specs.Little.{toLE, field}
+use Rattle.little.specs.Little.{toLE, field, filled}
 use Rattle.stored_plan.specs.Form.{headerSize, countField, bucketsField, thresholdOffsetField, bucketOffsetField, delayField, horizonField}
 use Rattle.stored_plan.specs.Form.{thresholdEntrySize, allowanceField, bucketEntrySize, rightField, bucketOffset}
 use Rattle.stored_plan.specs.Form.{pair, header, thresholdEntries, bucketEntries, encoded}
-use Rattle.stored_plan.specs.Reading.{filled, countIn, bucketsIn, planIn, readRefusal}
+use Rattle.stored_plan.specs.Reading.{countIn, bucketsIn, planIn, readRefusal}
 use Rattle.stored_plan.specs.RoundTrip.{SamePlan}
-use Rattle.stored_plan.proofs.LittleLaws.{field-right, field-next, field-here, field-last}
-use Rattle.stored_plan.proofs.FormLaws.{pair-length, join-field, header-length, front-length, encoded-length, header-fits}
-use Rattle.stored_plan.proofs.ReadingLaws.{filled-length, filled-get, filled-past, filled-cong}
+use Rattle.little.proofs.LittleLaws.{field-right, field-next, field-here, field-last}
+use Rattle.stored_plan.proofs.FormLaws.{pair-length, header-length, front-length, encoded-length, header-fits}
+use Rattle.little.proofs.EntryLaws.{join-field}
+use Rattle.little.proofs.FilledLaws.{filled-length, filled-get, filled-past, filled-cong}
 use Rattle.stored_plan.proofs.Refusals.{readable}
 
 -- the plan with zeros past its counts

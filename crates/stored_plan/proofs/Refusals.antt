@@ -13,7 +13,7 @@ use Rattle.plan.specs.Plan.{countsFit, planRefusal}
 use Rattle.plan.specs.declared.Plan.{Plan}
 use Rattle.plan.proofs.PlaceLaws.{both, le-reads, eq?-fails, eq-reads, first-some, first-one, same-number, none-both, none-says, last-says}
 use Rattle.plan.proofs.AcceptedLaws.{Counted, counts-say}
-use Rattle.stored_plan.specs.Little.{field}
+use Rattle.little.specs.Little.{field}
 use Rattle.stored_plan.specs.Form.{headerSize, thresholdOffsetField, bucketOffsetField, bucketOffset, formSize, formLimit, encoded}
 use Rattle.stored_plan.specs.Reading.{countIn, bucketsIn, planIn, offsetsFit, lengthFits, formRefusal, readRefusal, noPlan, decoded}
 use Rattle.stored_plan.specs.Writing.{writeRefusal, written, bytesAfter}

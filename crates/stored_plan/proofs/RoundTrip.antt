@@ -15,14 +15,15 @@ use Rattle.plan.proofs.PlaceLists.{join-cong}
 use Rattle.plan.proofs.AcceptedLaws.{accepted}
 use Rattle.plan.proofs.SameCountedLaws.{same-rules}
 use Rattle.stored_plan.specs.Form.{countField, bucketsField, formSize, formLimit, header, thresholdEntries, bucketEntries, encoded}
-use Rattle.stored_plan.specs.Reading.{filled, countIn, bucketsIn, planIn, readRefusal, noPlan, decodedBy, decoded}
+use Rattle.little.specs.Little.{filled}
+use Rattle.stored_plan.specs.Reading.{countIn, bucketsIn, planIn, readRefusal, noPlan, decodedBy, decoded}
 use Rattle.stored_plan.specs.Writing.{writeRefusal, writtenBy, bytesBy, written, bytesAfter}
 use Rattle.stored_plan.specs.RoundTrip.{PlanBack, BytesBack, WrittenBack, ReadBack, FormLength, cutAt, CutReading}
 use Rattle.stored_plan.specs.RoundTrip.{AcceptedForms, AcceptedWritings, FormWritten, NoneOnRefusal, IgnoredInForm, Zeros}
-use Rattle.stored_plan.proofs.LittleLaws.{field-cut}
+use Rattle.little.proofs.LittleLaws.{field-cut}
 use Rattle.stored_plan.proofs.FormLaws.{longest, encoded-length}
 use Rattle.stored_plan.proofs.Refusals.{readable, overlong-form, overlong, decoded-none, decoded-some, writable, written-none, written-some}
-use Rattle.stored_plan.proofs.ReadingLaws.{filled-past}
+use Rattle.little.proofs.FilledLaws.{filled-past}
 use Rattle.stored_plan.proofs.PlanBack.{same, plan-back, form-read}
 use Rattle.stored_plan.proofs.BytesBack.{bytes-back}
 

@@ -5,9 +5,9 @@ use Rattle.walk.specs.Units.{million, allowanceLimit, horizonLimit}
 use Rattle.plan.specs.Places.{eq?, allTo, anyTo, overTo, joinTo}
 use Rattle.plan.specs.Plan.{countsFit, rule1, aboveBefore, rule2, rule3, rule4, permitted, bucketFits, rule5, coveredAbove, rule6, planRefusal}
 use Rattle.plan.specs.PlanF.{planF}
-use Rattle.stored_plan.specs.Little.{toLE, fromLE, field}
+use Rattle.little.specs.Little.{toLE, fromLE, field, filled}
 use Rattle.stored_plan.specs.Form.{bucketOffset, formSize, header, thresholdEntries, bucketEntries, encoded}
-use Rattle.stored_plan.specs.Reading.{filled, countIn, bucketsIn, planIn, offsetsFit, lengthFits, formRefusal, readRefusal, noPlan, decoded}
+use Rattle.stored_plan.specs.Reading.{countIn, bucketsIn, planIn, offsetsFit, lengthFits, formRefusal, readRefusal, noPlan, decoded}
 use Rattle.stored_plan.specs.Writing.{writeRefusal, written, bytesAfter}
 use Rattle.stored_plan.specs.Trials.{planFBytes, damaged, damages, TrialsTheorem}
 

@@ -4,7 +4,7 @@ use Prim.Native.Nat.{ℕ, _+_, _*_}
 use lib.ListN.{getD}
 use Rattle.plan.specs.Places.{joinTo}
 use Rattle.plan.specs.declared.Plan.{Plan}
-use Rattle.stored_plan.specs.Little.{toLE}
+use Rattle.little.specs.Little.{toLE}
 
 -- ---- sizes and offsets, in bytes
 

@@ -1,5 +1,4 @@
 -- What a reader of this crate has to believe: each file after those it rests on, with its sections of docs/RULES.md. Definitions only.
-pub mod Little
 pub mod Form
 pub mod Reading
 pub mod Writing

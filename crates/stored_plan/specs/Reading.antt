@@ -4,17 +4,13 @@ use mathlib.Core.List.{List, [], _∷_}
 use Prim.Native.Nat.{ℕ, zero, suc, _+_}
 use lib.ListN.{length, replicate}
 use Rattle.walk.specs.Numbers.{le?}
-use Rattle.plan.specs.Places.{eq?, unless, firstRefusal, overTo}
+use Rattle.plan.specs.Places.{eq?, unless, firstRefusal}
 use Rattle.plan.specs.Plan.{countLimit, bucketLimit, countsFit, planRefusal}
 use Rattle.plan.specs.declared.Plan.{Plan}
-use Rattle.stored_plan.specs.Little.{field, column}
+use Rattle.little.specs.Little.{field, column, filled}
 use Rattle.stored_plan.specs.Form.{headerSize, countField, bucketsField, thresholdOffsetField, bucketOffsetField, delayField, horizonField}
 use Rattle.stored_plan.specs.Form.{thresholdEntrySize, allowanceField, bucketEntrySize, rightField, bucketOffset, formSize}
 use Rattle.stored_plan.specs.declared.Read.{Read}
-
--- a table with its first `count` places as f says
-unfoldable pub filled : ℕ → (ℕ → ℕ) → List ℕ → List ℕ
-filled count f table = overTo count (λ i _. f i) table
 
 module _ (bytes : List ℕ) where
   -- the header's counts

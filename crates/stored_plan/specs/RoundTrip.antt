@@ -7,7 +7,7 @@ use lib.ListN.{length, take, drop}
 use Rattle.plan.specs.Plan.{countLimit, bucketLimit, thresholdAt, allowanceAt, leftAt, rightAt, planRefusal}
 use Rattle.plan.specs.SameCounted.{SameCounted}
 use Rattle.plan.specs.declared.Plan.{Plan}
-use Rattle.stored_plan.specs.Little.{Bytes}
+use Rattle.little.specs.Little.{Bytes}
 use Rattle.stored_plan.specs.Form.{formSize, formLimit, encoded}
 use Rattle.stored_plan.specs.Reading.{decoded}
 use Rattle.stored_plan.specs.Writing.{written, bytesAfter}

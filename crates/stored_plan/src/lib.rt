@@ -1,6 +1,5 @@
 // The stored form of a plan (rules 2).
 mod form;
-mod little;
 mod order;
 pub mod reading;
 pub mod writing;

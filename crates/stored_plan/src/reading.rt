@@ -3,9 +3,8 @@ ghost use mathlib.Core.Path.{_≡_};
 ghost use Prim.Native.Nat.{ℕ, _+_, _*_, _≤_, _<_};
 ghost use lib.ListN.{length};
 ghost use Rattle.plan.specs.Plan.{countLimit, bucketLimit};
-ghost use Rattle.stored_plan.specs.Little.{column};
 ghost use Rattle.stored_plan.specs.Form.{headerSize, formSize};
-ghost use Rattle.stored_plan.specs.Reading.{filled, countIn, bucketsIn, planIn, offsetsFit, formRefusal, noPlan, decoded};
+ghost use Rattle.stored_plan.specs.Reading.{countIn, bucketsIn, planIn, offsetsFit, formRefusal, noPlan, decoded};
 use crate::HEADER_SIZE;
 use crate::Read;
 use crate::form::ALLOWANCE_FIELD;
@@ -20,10 +19,12 @@ use crate::form::THRESHOLD_ENTRY_SIZE;
 use crate::form::THRESHOLD_OFFSET_FIELD;
 use crate::form::bucket_offset;
 use crate::form::form_size;
-use crate::little::read_le;
-use crate::little::read_u32;
 use crate::order::first_refusal;
 use crate::order::unless;
+use little::numbers::read_le;
+use little::numbers::read_u32;
+use little::tables::fields_in;
+use little::tables::long_fields_in;
 use plan::BUCKET_LIMIT;
 use plan::COUNT_LIMIT;
 use plan::Plan;
@@ -55,33 +56,6 @@ fn form_refusal(bytes: &[u8]) -> u32
     let offsets = unless(offsets_fit(bytes), 7);
     let size = unless(bytes.len() == form_size(count, buckets), 7);
     first_refusal(counts, first_refusal(offsets, size))
-}
-
-// Numbers of `width` bytes, at an offset and at each stride from there on, into the first `count` places of a table.
-fn fields_in(bytes: &[u8], at: usize, stride: usize, width: usize, count: usize, table: &mut [u32])
-    requires { ⌜ (width ≤ 4) × (count ≤ length (now table)) × ((i : ℕ) → i < count → at + stride * i + width ≤ length (now bytes)) ⌝ }
-    ensures { λ _. ⌜ now (table .exit) ≡ filled count (column width at stride (now (bytes .entry))) (now (table .entry)) ⌝ }
-{
-    for i in 0..count {
-        table[i] = read_u32(bytes, at + stride * i, width);
-    }
-}
-
-// The same of up to 8 bytes.
-fn long_fields_in(
-    bytes: &[u8],
-    at: usize,
-    stride: usize,
-    width: usize,
-    count: usize,
-    table: &mut [u64],
-)
-    requires { ⌜ (width ≤ 8) × (count ≤ length (now table)) × ((i : ℕ) → i < count → at + stride * i + width ≤ length (now bytes)) ⌝ }
-    ensures { λ _. ⌜ now (table .exit) ≡ filled count (column width at stride (now (bytes .entry))) (now (table .entry)) ⌝ }
-{
-    for i in 0..count {
-        table[i] = read_le(bytes, at + stride * i, width);
-    }
 }
 
 // The plan of a form that its counts and its length fit.

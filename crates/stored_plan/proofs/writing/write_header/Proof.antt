@@ -3,10 +3,10 @@ use mathlib.Core.List.{_++_, append-assoc}
 use native.Mathlib.Omega.{arith}
 use borrow.Author.Needs.{needs}
 use lib.ListN.{length-append}
-use Rattle.stored_plan.specs.Little.{toLE}
+use Rattle.little.specs.Little.{toLE}
 use Rattle.stored_plan.specs.Form.{headerSize, header}
-use Rattle.stored_plan.proofs.LittleLaws.{to-length}
-use Rattle.stored_plan.proofs.Putting.{then}
+use Rattle.little.proofs.LittleLaws.{to-length}
+use Rattle.little.proofs.Putting.{then}
 use Rattle.stored_plan.proofs.writing.write_header.Statement.{statement}
 use Rattle.stored_plan.proofs.writing.write_header.Tie as tie
 

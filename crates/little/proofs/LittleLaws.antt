@@ -9,7 +9,7 @@ use native.Mathlib.Omega.{arith}
 use lib.ListN.{length, take, drop, getD, length-take, length-drop, take-append-drop, List·getD-eq-default}
 use lib.Seq.{drop-cons, getD-take, getD-drop, length-take-le, take-append-le, drop-append-le, drop-append-add, take-at}
 use Rattle.plan.proofs.PlaceLaws.{le-or-lt}
-use Rattle.stored_plan.specs.Little.{toLE, fromLE, field, Bytes}
+use Rattle.little.specs.Little.{toLE, fromLE, field, Bytes}
 
 pub to-length : (width v : ℕ) → length (toLE width v) ≡ width
 unfolding toLE

@@ -1,4 +1,4 @@
--- Tables that are filled up to a count (specs/Reading, filled).
+-- Tables that are filled up to a count (specs/Little, filled).
 use mathlib.Core.Path.{_≡_, refl, _∙_}
 use mathlib.Core.List.{List}
 use Prim.Native.Nat.{ℕ, zero, suc, _+_, _≤_, _<_}
@@ -7,7 +7,7 @@ use native.Mathlib.Omega.{arith}
 use lib.ListN.{length, replicate, set, getD, length-replicate, length-set}
 use Rattle.plan.specs.Places.{overTo}
 use Rattle.plan.proofs.PlaceLists.{over-length, over-get, over-cong, over-put}
-use Rattle.stored_plan.specs.Reading.{filled}
+use Rattle.little.specs.Little.{filled}
 
 -- what a loop has filled when it comes to place i, of `count` places to fill
 module _ (count : ℕ) (f : ℕ → ℕ) (table₀ : List ℕ) where

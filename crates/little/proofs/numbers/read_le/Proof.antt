@@ -5,10 +5,10 @@ use native.Mathlib.Numerals.{add-one}
 use native.Mathlib.Omega.{arith}
 use borrow.Author.Needs.{needs}
 use lib.ListN.{take, drop, length-take, drop-of-length-le}
-use Rattle.stored_plan.specs.Little.{fromLE, field}
-use Rattle.stored_plan.proofs.LittleLaws.{more-lt, pow-le, from-cons}
-use Rattle.stored_plan.proofs.little.read_le.Statement.{statement}
-use Rattle.stored_plan.proofs.little.read_le.Tie as tie
+use Rattle.little.specs.Little.{fromLE, field}
+use Rattle.little.proofs.LittleLaws.{more-lt, pow-le, from-cons}
+use Rattle.little.proofs.numbers.read_le.Statement.{statement}
+use Rattle.little.proofs.numbers.read_le.Tie as tie
 
 abbrev Inv-loop : tie.InvT-loop
 Inv-loop bytes at width v₀ i₀ v i = (i ≤ width) × (v ≡ fromLE (drop (width - i) (take width (drop at bytes)))) × (v < 256 ^ i)

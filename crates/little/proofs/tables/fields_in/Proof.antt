@@ -1,11 +1,11 @@
--- As `fields_in`.
+-- The table is filled up to place i.
 use Prim.Native.Nat.{_-_}
 use native.Mathlib.Omega.{arith}
 use borrow.Author.Needs.{needs}
-use Rattle.stored_plan.specs.Little.{column}
-use Rattle.stored_plan.proofs.ReadingLaws.{FilledTo, fill-none, fill-next, fill-all}
-use Rattle.stored_plan.proofs.reading.long_fields_in.Statement.{statement}
-use Rattle.stored_plan.proofs.reading.long_fields_in.Tie as tie
+use Rattle.little.specs.Little.{column}
+use Rattle.little.proofs.FilledLaws.{FilledTo, fill-none, fill-next, fill-all}
+use Rattle.little.proofs.tables.fields_in.Statement.{statement}
+use Rattle.little.proofs.tables.fields_in.Tie as tie
 
 abbrev Inv-loop : tie.InvT-loop
 Inv-loop bytes at stride width count table₀ i₀ table i = FilledTo count (column width at stride bytes) table₀ i table
@@ -16,14 +16,14 @@ abbrev μ-loop : tie.MeasureT-loop
 loop-holds : tie.Need-loop-holds Inv-loop μ-loop
 loop-holds c = fill-none _ _ _
 
-mul-read-le : tie.Need-mul-read-le Inv-loop μ-loop
-mul-read-le c = record { fits = omega (arith, c .before .before .before .before .pre .2 (c .before .loop .i) (c .loop-test .taken)) }
+mul-read-u32 : tie.Need-mul-read-u32 Inv-loop μ-loop
+mul-read-u32 c = record { fits = omega (arith, c .before .before .before .before .pre .2 (c .before .loop .i) (c .loop-test .taken)) }
 
-add-read-le : tie.Need-add-read-le Inv-loop μ-loop
-add-read-le c = record { fits = omega (arith, c .before .before .before .before .pre .2 (c .before .loop .i) (c .loop-test .taken)) }
+add-read-u32 : tie.Need-add-read-u32 Inv-loop μ-loop
+add-read-u32 c = record { fits = omega (arith, c .before .before .before .before .pre .2 (c .before .loop .i) (c .loop-test .taken)) }
 
-read-le-requires : tie.Need-read-le-requires Inv-loop μ-loop
-read-le-requires c κs = let pre = c .before .before .before .before .pre in (pre .2 (c .before .loop .i) (c .loop-test .taken), pre .0)
+read-u32-requires : tie.Need-read-u32-requires Inv-loop μ-loop
+read-u32-requires c κs = let pre = c .before .before .before .before .pre in (pre .2 (c .before .loop .i) (c .loop-test .taken), pre .0)
 
 mul-table : tie.Need-mul-table Inv-loop μ-loop
 mul-table c = search needs
@@ -42,7 +42,7 @@ loop-again c =
     let l = c .before .before .loop in
     let a = c .before .before .before .before .before .args in
     let f = column (a .width) (a .at) (a .stride) (a .bytes .now) in
-    fill-next (a .count) f (a .table .now) (l .i) (l .table) (l .inv) (c .before .loop-test .taken) (c .read-le .result) (c .read-le .ensures .0)
+    fill-next (a .count) f (a .table .now) (l .i) (l .table) (l .inv) (c .before .loop-test .taken) (c .read-u32 .result) (c .read-u32 .ensures .0)
 
 same-length : tie.Need-same-length Inv-loop μ-loop
 same-length c = search needs
@@ -50,16 +50,16 @@ same-length c = search needs
 returns : tie.Need-returns Inv-loop μ-loop
 returns c = let l = c .before .loop in fill-all _ _ _ (l .i) (l .table) (l .inv) (omega arith)
 
-pub long-fields-in-spec : {M : Type 1} → statement M
-long-fields-in-spec =
+pub fields-in-spec : {M : Type 1} → statement M
+fields-in-spec =
     tie.close
     (tie.spec
     Inv-loop
     μ-loop
     loop-holds
-    mul-read-le
-    add-read-le
-    read-le-requires
+    mul-read-u32
+    add-read-u32
+    read-u32-requires
     mul-table
     slice-write-table
     add-i

@@ -1,11 +1,11 @@
 -- One run behind the other.
 use native.Mathlib.Omega.{arith}
 use borrow.Author.Needs.{needs}
-use Rattle.stored_plan.specs.Little.{toLE}
-use Rattle.stored_plan.proofs.LittleLaws.{to-length}
-use Rattle.stored_plan.proofs.Putting.{then}
-use Rattle.stored_plan.proofs.little.write_two.Statement.{statement}
-use Rattle.stored_plan.proofs.little.write_two.Tie as tie
+use Rattle.little.specs.Little.{toLE}
+use Rattle.little.proofs.LittleLaws.{to-length}
+use Rattle.little.proofs.Putting.{then}
+use Rattle.little.proofs.numbers.write_two.Statement.{statement}
+use Rattle.little.proofs.numbers.write_two.Tie as tie
 
 write-le-requires : tie.Need-write-le-requires
 write-le-requires c κs = search needs

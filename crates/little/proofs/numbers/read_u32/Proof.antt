@@ -1,9 +1,9 @@
 -- At most 4 bytes fit.
 use native.Mathlib.Omega.{arith}
 use borrow.Author.Needs.{needs}
-use Rattle.stored_plan.proofs.LittleLaws.{pow-le}
-use Rattle.stored_plan.proofs.little.read_u32.Statement.{statement}
-use Rattle.stored_plan.proofs.little.read_u32.Tie as tie
+use Rattle.little.proofs.LittleLaws.{pow-le}
+use Rattle.little.proofs.numbers.read_u32.Statement.{statement}
+use Rattle.little.proofs.numbers.read_u32.Tie as tie
 
 read-le-requires : tie.Need-read-le-requires
 read-le-requires c κs = search needs

@@ -5,7 +5,7 @@ use Prim.Native.Nat.{ℕ, _+_, _≤_}
 use native.Mathlib.Omega.{arith}
 use lib.ListN.{length, take, drop, length-append, take-append-drop}
 use lib.Seq.{sets, sets-eq, take-at, drop-drop, drop-append-add, length-take-le}
-use Rattle.stored_plan.specs.Little.{putAt}
+use Rattle.little.specs.Little.{putAt}
 
 module _ (at : ℕ) where
   -- a run of stores

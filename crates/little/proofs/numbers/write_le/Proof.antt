@@ -5,11 +5,11 @@ use native.Mathlib.Omega.{arith}
 use borrow.Author.Needs.{needs}
 use lib.ListN.{length}
 use lib.Seq.{sets}
-use Rattle.stored_plan.specs.Little.{toLE}
-use Rattle.stored_plan.proofs.LittleLaws.{to-length}
-use Rattle.stored_plan.proofs.Putting.{put-sets}
-use Rattle.stored_plan.proofs.little.write_le.Statement.{statement}
-use Rattle.stored_plan.proofs.little.write_le.Tie as tie
+use Rattle.little.specs.Little.{toLE}
+use Rattle.little.proofs.LittleLaws.{to-length}
+use Rattle.little.proofs.Putting.{put-sets}
+use Rattle.little.proofs.numbers.write_le.Statement.{statement}
+use Rattle.little.proofs.numbers.write_le.Tie as tie
 
 abbrev Inv-loop : tie.InvT-loop
 Inv-loop bytes₀ at width v x₀ i₀ bytes x i =

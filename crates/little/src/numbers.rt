@@ -3,7 +3,7 @@ ghost use mathlib.Core.Path.{_≡_};
 ghost use mathlib.Core.List.{_++_};
 ghost use Prim.Native.Nat.{_+_, _≤_, _<_, _^_};
 ghost use lib.ListN.{length};
-ghost use Rattle.stored_plan.specs.Little.{toLE, field, putAt};
+ghost use Rattle.little.specs.Little.{toLE, field, putAt};
 
 // A byte, below 256: all that the sum asks of it.
 fn byte(b: u8) -> u64
@@ -13,7 +13,7 @@ fn byte(b: u8) -> u64
 }
 
 // The number of `width` bytes at an offset, at most 8.
-pub(crate) fn read_le(bytes: &[u8], at: usize, width: usize) -> u64
+pub fn read_le(bytes: &[u8], at: usize, width: usize) -> u64
     requires { ⌜ (at + width ≤ length (now bytes)) × (width ≤ 8) ⌝ }
     ensures { λ r. ⌜ (r ≡ field width at (now (bytes .entry))) × (r < 256 ^ width) ⌝ }
 {
@@ -27,7 +27,7 @@ pub(crate) fn read_le(bytes: &[u8], at: usize, width: usize) -> u64
 }
 
 // The same of at most 4 bytes.
-pub(crate) fn read_u32(bytes: &[u8], at: usize, width: usize) -> u32
+pub fn read_u32(bytes: &[u8], at: usize, width: usize) -> u32
     requires { ⌜ (at + width ≤ length (now bytes)) × (width ≤ 4) ⌝ }
     ensures { λ r. ⌜ (r ≡ field width at (now (bytes .entry))) × (r < 256 ^ width) ⌝ }
 {
@@ -35,7 +35,7 @@ pub(crate) fn read_u32(bytes: &[u8], at: usize, width: usize) -> u32
 }
 
 // The lowest `width` bytes of v are put at an offset; the other bytes stay.
-pub(crate) fn write_le(bytes: &mut [u8], at: usize, width: usize, v: u64)
+pub fn write_le(bytes: &mut [u8], at: usize, width: usize, v: u64)
     requires { ⌜ at + width ≤ length (now bytes) ⌝ }
     ensures { λ _. ⌜ now (bytes .exit) ≡ putAt at (toLE width v) (now (bytes .entry)) ⌝ }
 {
@@ -47,7 +47,7 @@ pub(crate) fn write_le(bytes: &mut [u8], at: usize, width: usize, v: u64)
 }
 
 // Two numbers, v of `first` bytes and w of `second` bytes behind it.
-pub(crate) fn write_two(bytes: &mut [u8], at: usize, first: usize, v: u32, second: usize, w: u64)
+pub fn write_two(bytes: &mut [u8], at: usize, first: usize, v: u32, second: usize, w: u64)
     requires { ⌜ at + first + second ≤ length (now bytes) ⌝ }
     ensures { λ _. ⌜ now (bytes .exit) ≡ putAt at (toLE first v ++ toLE second w) (now (bytes .entry)) ⌝ }
 {

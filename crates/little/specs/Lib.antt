@@ -1,0 +1,2 @@
+-- What a reader of this crate has to believe. Definitions only.
+pub mod Little
