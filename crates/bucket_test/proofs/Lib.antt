@@ -1,5 +1,5 @@
 -- The parts of the words, and places past a count.
-mod PartLaws
+pub mod PartLaws
 pub mod Ignored
 -- Which bucket an answer names, and that nothing else hangs on it.
 pub mod Named
@@ -8,12 +8,12 @@ pub mod AsBefore
 pub mod OneStep
 pub mod Refusing
 -- A carried test: one threshold, the whole state, the beginning, demand 3.
-mod OneThreshold
-mod Invariant
+pub mod OneThreshold
+pub mod Invariant
 mod Beginning
 pub mod Demand
 mod Trials
 -- What the code leaves to do.
-mod AnsweringLaws
-mod TurningLaws
-mod DrawingLaws
+pub mod AnsweringLaws
+pub mod TurningLaws
+pub mod DrawingLaws

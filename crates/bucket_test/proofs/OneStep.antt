@@ -70,7 +70,7 @@ module _ (a : ℕ) (threshold : a ≤ million) (E : ℕ → ℕ) (spends : IsSpe
 -- ---- a draw that nothing refuses
 
 -- what was judged
-drawn-says : (p : Plan) (s : State) (ws : List ℕ) (d : ℕ) → drawRefusal p s ws d ≡ 0
+pub drawn-says : (p : Plan) (s : State) (ws : List ℕ) (d : ℕ) → drawRefusal p s ws d ≡ 0
     → (planRefusal p ≡ 0) × (length ws ≡ wide * p .count) × (isEnding (answerOf p s) ≡ false) × (stateSound p s ws ≡ true)
 unfolding drawRefusalOver
 drawn-says p s ws d e =
@@ -99,11 +99,11 @@ module _ (p : Plan) (s : State) (ws : List ℕ) (d : ℕ) where
     ok = accepted p .0 good
 
     module _ (i : ℕ) (l : i < p .count) where
-      size : length (partAt i ws) ≡ wide
+      pub size : length (partAt i ws) ≡ wide
       size = part-length ws (p .count) i fits l
 
       -- there is a record at each counted place: the boundaries of none are refused
-      there : i < length (s .records)
+      pub there : i < length (s .records)
       there = ⊎-elim (λ h. absurd (none h)) (λ h. h) (le-or-lt (length (s .records)) i)
         where
           none : length (s .records) ≤ i → ⊥
@@ -113,7 +113,7 @@ module _ (p : Plan) (s : State) (ws : List ℕ) (d : ℕ) where
               (rw (List·getD-eq-default (s .records) noRecord {n = i} h) at (sound-at p s ws good fits open-yet sound i l)) in
               omega (arith, c .upper-is, c .sound .sound .live)
 
-      record-next : recordAt (nextState p s ws d) i ≡ recordTurned i (recordAt s i .mark)
+      pub record-next : recordAt (nextState p s ws d) i ≡ recordTurned i (recordAt s i .mark)
       unfolding nextState
       record-next = over-get (p .count) _ (s .records) i noRecord l there
 
@@ -133,7 +133,7 @@ module _ (p : Plan) (s : State) (ws : List ℕ) (d : ℕ) where
       stays (Above u) n = (refl, refl)
       stays (AtMost u) n = (refl, refl)
 
-      size-next : length (partTurned i (recordAt s i .mark)) ≡ wide
+      pub size-next : length (partTurned i (recordAt s i .mark)) ≡ wide
       size-next = go (recordAt s i .mark) refl
         where
           go : (m : Mark) → recordAt s i .mark ≡ m → length (partTurned i m) ≡ wide
@@ -141,7 +141,7 @@ module _ (p : Plan) (s : State) (ws : List ℕ) (d : ℕ) where
           go (Above u) e = size
           go (AtMost u) e = size
 
-    part-next : (i : ℕ) → i < p .count → partAt i (nextWords p s ws d) ≡ partTurned i (recordAt s i .mark)
+    pub part-next : (i : ℕ) → i < p .count → partAt i (nextWords p s ws d) ≡ partTurned i (recordAt s i .mark)
     unfolding nextWords
     part-next = join-part (λ i. partTurned i (recordAt s i .mark)) (p .count) size-next
 

@@ -50,7 +50,7 @@ fn records_sound(p: Plan, s: State, words: &[u64]) -> bool
 }
 
 // Refusal 11, of any state: n over N or S over n, or a record of the first K. A draw has judged plan and words.
-pub(crate) fn state_sound(p: Plan, s: State, words: &[u64]) -> bool
+pub fn state_sound(p: Plan, s: State, words: &[u64]) -> bool
     requires { ⌜ (planRefusal p ≡ 0) × (length (now words) ≡ wide * p .count) ⌝ }
     ensures { λ r. ⌜ r ≡ stateSound p s (now (words .entry)) ⌝ }
 {

@@ -1,8 +1,8 @@
 // The bucket test: a beginning, draws, and the answer.
 mod answering;
 pub mod drawing;
-mod judging;
-mod starting;
+pub mod judging;
+pub mod starting;
 mod turning;
 
 use plan::COUNT_LIMIT;

@@ -18,7 +18,7 @@ ghost use Rattle.bucket_test.specs.Turn.{openRecord, noWalked};
 ghost use Rattle.bucket_test.specs.Draw.{tenOf};
 
 // A state before any draw: ten open records that stand so.
-pub(crate) fn ten_of(walked: Walked) -> State
+pub fn ten_of(walked: Walked) -> State
     ensures { λ r. ⌜ r ≡ tenOf (openRecord walked) ⌝ }
 {
     let mark = Mark::Open;
@@ -35,7 +35,7 @@ pub(crate) fn ten_of(walked: Walked) -> State
 }
 
 // Where no walk stands: a refused beginning hands back zeros in every number, and open marks.
-pub(crate) fn no_walked() -> Walked
+pub fn no_walked() -> Walked
     ensures { λ r. ⌜ r ≡ noWalked ⌝ }
 {
     Walked {

@@ -1,8 +1,8 @@
 -- Numbers, lists and signed numbers.
 pub mod Tests
-mod Lists
+pub mod Lists
 pub mod Searches
-mod Boundaries
+pub mod Boundaries
 pub mod Signed
 -- One mass, the cells of a row, where they are cut, one step, and the walk's rows.
 mod Rounding

@@ -1,0 +1,153 @@
+-- Tests that are alike are refused alike, answer alike, and are alike after a draw (specs/Alike, specs/Codec: Simulation).
+use mathlib.Core.Path.{_≡_, refl, sym, ap, _∙_}
+use mathlib.Core.Bool.{Bool, true, false, _&&_}
+use mathlib.Core.Logic.{_⊎_, inl, inr, ⊎-elim}
+use mathlib.Core.List.{List, [], _∷_}
+use Prim.Native.Nat.{ℕ, zero, suc, _+_, _*_, _-_, _≤_, _<_}
+use native.Mathlib.Omega.{arith}
+use lib.IntN.{ℤ, pos, negsuc}
+use lib.ListN.{length, take, drop, getD, replicate}
+use lib.Seq.{take-take}
+use Rattle.walk.specs.Numbers.{le?, allUpTo}
+use Rattle.walk.specs.Units.{wide}
+use Rattle.walk.specs.Row.{Row, stepRow, total}
+use Rattle.walk.specs.Record.{firstAbove, rowOf, padded}
+use Rattle.walk.specs.Soundness.{isSound}
+use Rattle.walk.specs.Strings.{judged}
+use Rattle.walk.specs.declared.Mark.{Mark}
+use Rattle.walk.specs.declared.Mark.the-variants.{Open, Above, AtMost}
+use Rattle.walk.specs.declared.Walked.{Walked}
+use Rattle.plan.specs.Places.{allTo}
+use Rattle.plan.specs.Plan.{thresholdAt, spendingOf, planRefusal}
+use Rattle.bucket_test.specs.Words.{partAt, wordsFit}
+use Rattle.bucket_test.specs.Turn.{recordAt, turnRecord, turnPart, recordSound, recordTurn, partTurn, recordSoundAt, wideOpen}
+use Rattle.bucket_test.specs.Answers.{lowOf, highOf, anyWide, answerBy, answerOf, isEnding}
+use Rattle.bucket_test.specs.Draw.{Outcome, stateSound, drawRefusal, nextState, nextWords, drawnBy, drawn}
+use Rattle.plan.specs.declared.Plan.{Plan}
+use Rattle.bucket_test.specs.declared.Threshold.{Threshold}
+use Rattle.bucket_test.specs.declared.State.{State}
+use Rattle.plan.proofs.PlaceLaws.{all-cong, any-cong, largest-cong, smallest-cong}
+use Rattle.bucket_test.proofs.PartLaws.{words-say}
+use Rattle.bucket_test.proofs.OneStep.{drawn-says, record-next, part-next, one-step-holds}
+use Rattle.bucket_test.proofs.DrawingLaws.{drawn-by}
+use Rattle.saved_test.specs.Form.{gap, liveBy, liveCount}
+use Rattle.saved_test.specs.Alike.{liveMasses, Alike, SameParts}
+use Rattle.saved_test.specs.Codec.{drawnAfter, AlikeAfter, Simulation}
+
+-- ---- one threshold
+
+module _ (t : Threshold) (part part′ : List ℕ) where
+  -- by its mark: the same record after its turn, and after it the same live masses
+  module _ (a e n S : ℕ) where
+    turn-by : (m : Mark) → take (liveBy m (t .walked)) part′ ≡ take (liveBy m (t .walked)) part
+        → turnRecord a e n S m t part′ ≡ turnRecord a e n S m t part
+    turn-by Open h = rw (row-same (t .walked) part part′ h)
+    turn-by (Above u) h = refl
+    turn-by (AtMost u) h = refl
+
+    live-by : (m : Mark) → t .mark ≡ m → take (liveBy m (t .walked)) part′ ≡ take (liveBy m (t .walked)) part
+        → liveMasses (turnRecord a e n S m t part) (turnPart a e n S m t part′)
+        ≡ liveMasses (turnRecord a e n S m t part) (turnPart a e n S m t part)
+    live-by Open q h = rw (row-same (t .walked) part part′ h)
+    live-by (Above u) q h = rw q
+    live-by (AtMost u) q h = rw q
+
+-- ---- a test
+
+module _ (p : Plan) (s : State) (words : List ℕ) (s′ : State) (words′ : List ℕ) (h : Alike p s words s′ words′) where
+  module _ (d : ℕ) where
+    pub refusal-same : drawRefusal p s′ words′ d ≡ drawRefusal p s words d
+    unfolding drawRefusal
+    refusal-same = rw (words-same, answer-same, sound-same)
+
+    -- a draw that nothing refuses
+    module _ (none : drawRefusal p s words d ≡ 0) where
+      none′ : drawRefusal p s′ words′ d ≡ 0
+      none′ = refusal-same ∙ none
+
+      module _ (i : ℕ) (l : i < p .count) where
+        abbrev t : Threshold
+        t = recordAt s i
+
+        abbrev live : Type 0
+        live = liveMasses t (partAt i words′) ≡ liveMasses t (partAt i words)
+
+        turned : recordTurn p words′ (suc (s′ .n)) (s′ .ones + d) i (recordAt s′ i) ≡ recordTurn p words (suc (s .n)) (s .ones + d) i (recordAt s i)
+        turned =
+            rw (h .record-same i l, h .n-same, h .ones-same)
+            (turn-by t (partAt i words) (partAt i words′) (thresholdAt p i) (spendingOf p i (suc (s .n))) (suc (s .n)) (s .ones + d) (t .mark)
+            (h .masses-same i l))
+
+        record-is : recordAt (nextState p s words d) i ≡ recordTurn p words (suc (s .n)) (s .ones + d) i (recordAt s i)
+        record-is = let k = drawn-says p s words d none in record-next p s words d (k .0) (k .1) (k .2) (k .3) i l
+
+        part-is : partAt i (nextWords p s words d) ≡ partTurn p words (suc (s .n)) (s .ones + d) i (recordAt s i)
+        part-is = let k = drawn-says p s words d none in part-next p s words d (k .0) (k .1) (k .2) (k .3) i l
+
+        pub part-is′ : partAt i (nextWords p s′ words′ d) ≡ partTurn p words′ (suc (s .n)) (s .ones + d) i (recordAt s i)
+        part-is′ =
+            let k = drawn-says p s′ words′ d none′ in
+            part-next p s′ words′ d (k .0) (k .1) (k .2) (k .3) i l ∙ rw (h .record-same i l, h .n-same, h .ones-same)
+
+        next-record : recordAt (nextState p s′ words′ d) i ≡ recordAt (nextState p s words d) i
+        next-record = let k = drawn-says p s′ words′ d none′ in record-next p s′ words′ d (k .0) (k .1) (k .2) (k .3) i l ∙ turned ∙ sym record-is
+
+        next-live : liveMasses (recordAt (nextState p s words d) i) (partAt i (nextWords p s′ words′ d))
+            ≡ liveMasses (recordAt (nextState p s words d) i) (partAt i (nextWords p s words d))
+        next-live =
+            rw (record-is, part-is, part-is′)
+            (live-by t (partAt i words) (partAt i words′) (thresholdAt p i) (spendingOf p i (suc (s .n))) (suc (s .n)) (s .ones + d) (t .mark) refl
+            (h .masses-same i l))
+
+      next-alike : Alike p (nextState p s words d) (nextWords p s words d) (nextState p s′ words′ d) (nextWords p s′ words′ d)
+      next-alike =
+          let o = rw (drawn-by p s words d 0 none) at (one-step-holds p s words d none) in
+          let o′ = rw (drawn-by p s′ words′ d 0 none′) at (one-step-holds p s′ words′ d none′) in
+          record {
+            n-same = o′ .n-is ∙ ap suc (h .n-same) ∙ sym (o .n-is);
+            ones-same = o′ .ones-is ∙ ap (λ (k : ℕ). k + d) (h .ones-same) ∙ sym (o .ones-is);
+            record-same = next-record;
+            masses-same = next-live;
+            sizes = (o .words-size, o′ .words-size);
+          }
+
+      -- the words of an open threshold are those of its step, whole; a settled one keeps its own
+      next-parts : SameParts p s words s′ words′ → SameParts p (nextState p s words d) (nextWords p s words d) (nextState p s′ words′ d) (nextWords p s′ words′ d)
+      next-parts same i l = go (t i l .mark) refl (same i l)
+        where
+          go : (m : Mark) → recordAt s i .mark ≡ m
+              → (partAt i words′ ≡ partAt i words) ⊎ ((¬ (recordAt s i .mark ≡ Open)) × (partAt i words′ ≡ replicate wide 0))
+              → (partAt i (nextWords p s′ words′ d) ≡ partAt i (nextWords p s words d))
+              ⊎ ((¬ (recordAt (nextState p s words d) i .mark ≡ Open)) × (partAt i (nextWords p s′ words′ d) ≡ replicate wide 0))
+          go Open e k = inl (part-is′ i l ∙ (rw (e, row-same (t i l .walked) (partAt i words) (partAt i words′) (rw e at (h .masses-same i l)))) ∙ sym (part-is i l))
+          go (Above u) e (inl q) = inl (part-is′ i l ∙ (rw (e, q)) ∙ sym (part-is i l))
+          go (Above u) e (inr q) = inr (rw (record-is i l, e) (q .0), part-is′ i l ∙ rw e (q .1))
+          go (AtMost u) e (inl q) = inl (part-is′ i l ∙ (rw (e, q)) ∙ sym (part-is i l))
+          go (AtMost u) e (inr q) = inr (rw (record-is i l, e) (q .0), part-is′ i l ∙ rw e (q .1))
+
+-- ---- a draw of any value, and lists of draws
+
+module _ (p : Plan) (s : State) (words : List ℕ) (s′ : State) (words′ : List ℕ) (h : Alike p s words s′ words′) (d : ℕ) where
+  pub drawn-alike : AlikeAfter p (drawn p s words d) (drawn p s′ words′ d)
+  drawn-alike =
+      rw (drawn-by p s words d _ refl, drawn-by p s′ words′ d _ (refusal-same p s words s′ words′ h d)) (go (drawRefusal p s words d) refl)
+    where
+      go : (r : ℕ) → drawRefusal p s words d ≡ r → AlikeAfter p (drawnBy r p s words d) (drawnBy r p s′ words′ d)
+      go zero e = let k = next-alike p s words s′ words′ h d e in record { answer-same = answer-same p _ _ _ _ k; alike = k }
+      go (suc r) e = record { answer-same = refl; alike = h }
+
+  abbrev Parts : Outcome → Outcome → Type 0
+  Parts o o′ = SameParts p (o .state) (o .words) (o′ .state) (o′ .words)
+
+  pub drawn-parts : SameParts p s words s′ words′ → Parts (drawn p s words d) (drawn p s′ words′ d)
+  drawn-parts same =
+      rw (drawn-by p s words d _ refl, drawn-by p s′ words′ d _ (refusal-same p s words s′ words′ h d)) (go (drawRefusal p s words d) refl)
+    where
+      go : (r : ℕ) → drawRefusal p s words d ≡ r → Parts (drawnBy r p s words d) (drawnBy r p s′ words′ d)
+      go zero e = next-parts p s words s′ words′ h d e same
+      go (suc r) e = same
+
+pub simulation : Simulation
+unfolding drawnAfter
+simulation p o o′ h [] = h
+simulation p o o′ h (d ∷ ds) = let k = simulation p o o′ h ds in drawn-alike p _ _ _ _ (k .alike) d

@@ -1,0 +1,12 @@
+-- Tests that are alike are judged alike.
+pub mod AlikeLaws
+-- The saved form: lengths, and fields of it.
+pub mod Sizes
+pub mod Fields
+-- What the judgement of a test says, and the two round trips.
+pub mod Judged
+pub mod TestBack
+pub mod BytesBack
+-- The statements of specs/RoundTrip.
+pub mod RoundTrip
+mod Trials

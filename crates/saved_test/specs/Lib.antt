@@ -1,0 +1,7 @@
+-- What a reader of this crate has to believe: each file after those it rests on, with its sections of docs/SAVED.md. Definitions only.
+pub mod Form
+pub mod Writing
+pub mod Reading
+pub mod Alike
+pub mod RoundTrip
+pub mod Trials
