@@ -1,6 +1,6 @@
 -- Tables that are filled up to a count (specs/Little, filled).
-use mathlib.Core.Path.{_≡_, refl, _∙_}
-use mathlib.Core.List.{List}
+use mathlib.Core.Path.{_≡_, refl, ap, _∙_}
+use mathlib.Core.List.{List, [], _∷_, _++_}
 use Prim.Native.Nat.{ℕ, zero, suc, _+_, _≤_, _<_}
 use native.Mathlib.Numerals.{add-one}
 use native.Mathlib.Omega.{arith}
@@ -49,3 +49,14 @@ filled-past (suc places) zero f zero l = refl
 filled-past (suc places) zero f (suc i) l = filled-past places zero f i (omega arith)
 filled-past (suc places) (suc count) f zero l = absurd (omega arith)
 filled-past (suc places) (suc count) f (suc i) l = filled-past places count (λ k. f (suc k)) i (omega arith)
+
+-- what stood in the filled places does not matter
+pub filled-over : (count : ℕ) (f : ℕ → ℕ) (front front′ rest : List ℕ) → length front ≡ count → length front′ ≡ count
+    → filled count f (front ++ rest) ≡ filled count f (front′ ++ rest)
+unfolding filled overTo
+filled-over zero f [] [] rest e e′ = refl
+filled-over zero f (x ∷ xs) front′ rest e e′ = absurd (omega arith)
+filled-over zero f [] (y ∷ ys) rest e e′ = absurd (omega arith)
+filled-over (suc count) f [] front′ rest e e′ = absurd (omega arith)
+filled-over (suc count) f (x ∷ xs) [] rest e e′ = absurd (omega arith)
+filled-over (suc count) f (x ∷ xs) (y ∷ ys) rest e e′ = ap (λ (zs : List ℕ). f 0 ∷ zs) (filled-over count (λ i. f (suc i)) xs ys rest (omega arith) (omega arith))

@@ -37,6 +37,7 @@ use Rattle.saved_test.specs.Writing.{saveRefusal}
 use Rattle.saved_test.specs.Reading.{markOf, markKnown, countFits, recordFrom, recordIn, recordFits, massOffset, partIn, stateIn, wordsIn, massesIn, headerFits, formFits, readRefusal}
 use Rattle.saved_test.specs.RoundTrip.{Typed, Savable, BytesBack}
 use Rattle.saved_test.proofs.Judged.{save-says, masses-cong}
+use Rattle.saved_test.proofs.HeldLaws.{record-held, part-held, words-held}
 
 -- ---- fields are small
 
@@ -192,21 +193,7 @@ module _ (p : Plan) (bytes : List ℕ) (each : Bytes bytes) (ok : Accepted p) (f
   few i l = few-by (recordIn bytes i .mark) (recordIn bytes i .walked) (f .marks i l .1)
 
   record-at : (i : ℕ) → i < p .count → recordAt (stateIn p bytes) i ≡ recordIn bytes i
-  unfolding stateIn
-  record-at i l =
-      over-get (p .count) (λ i _. recordIn bytes i) (replicate countLimit startRecord) i noRecord l (omega (arith, ok .count-range, length-replicate countLimit startRecord))
-
-  part-size : (i : ℕ) → length (partIn bytes (p .count) i) ≡ wide
-  unfolding partIn
-  part-size i = filled-length wide (liveCount (recordIn bytes i)) _
-
-  pub part-at : (i : ℕ) → i < p .count → partAt i (wordsIn p bytes) ≡ partIn bytes (p .count) i
-  unfolding wordsIn
-  part-at i l = join-part (partIn bytes (p .count)) (p .count) (λ i l. part-size i) i l
-
-  pub words-size : length (wordsIn p bytes) ≡ wide * p .count
-  unfolding wordsIn
-  words-size = join-length (partIn bytes (p .count)) wide (p .count) (λ i l. part-size i)
+  record-at = record-held p bytes (ok .count-range .1)
 
   masses-same : savedMasses p (stateIn p bytes) ≡ massesIn p bytes
   masses-same = masses-cong (recordAt (stateIn p bytes)) (recordIn bytes) (p .count) record-at
@@ -268,7 +255,7 @@ module _ (p : Plan) (bytes : List ℕ) (each : Bytes bytes) (ok : Accepted p) (f
     where
       entry : (i : ℕ) → i < p .count → massBytes (liveCount (recordAt (stateIn p bytes) i)) (partAt i (wordsIn p bytes))
           ≡ piece (recordOffset (p .count) + massSize * massesTo (recordIn bytes) i) (massSize * liveCount (recordIn bytes i))
-      entry i l = rw (record-at i l, part-at i l) (masses-part bytes each (massOffset bytes (p .count) i) (liveCount (recordIn bytes i)) (few i l) (omega (arith, f .sized, masses-within (recordIn bytes) (p .count) i l)))
+      entry i l = rw (record-at i l, part-held p bytes i l) (masses-part bytes each (massOffset bytes (p .count) i) (liveCount (recordIn bytes i)) (few i l) (omega (arith, f .sized, masses-within (recordIn bytes) (p .count) i l)))
 
   offset-is : recordOffset (p .count) ≡ headerSize + recordSize * p .count
   unfolding recordOffset
@@ -304,7 +291,7 @@ bytes-back p bytes lent each e =
     let ok = accepted p .0 (k .0) in
     let f = fitting p bytes (k .1 .1 .0) in (
       record {
-        accepted = save-says p (stateIn p bytes) (wordsIn p bytes) .1 (k .0, (words-size p bytes each ok f, k .1 .1 .1));
+        accepted = save-says p (stateIn p bytes) (wordsIn p bytes) .1 (k .0, (words-held p bytes, k .1 .1 .1));
         typed = λ i l. rw (record-at p bytes each ok f i l) (typed bytes each (recordOffset i));
       },
       form-whole p bytes each ok f,

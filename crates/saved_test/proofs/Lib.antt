@@ -5,8 +5,13 @@ pub mod Sizes
 pub mod Fields
 -- What the judgement of a test says, and the two round trips.
 pub mod Judged
+pub mod HeldLaws
 pub mod TestBack
 pub mod BytesBack
 -- The statements of specs/RoundTrip.
 pub mod RoundTrip
+-- What the code leaves to do.
+mod SignLaws
+mod CodeLaws
+mod WritingLaws
 mod Trials

@@ -34,6 +34,7 @@ use Rattle.saved_test.specs.RoundTrip.{Savable, ReadBack, TestBack}
 use Rattle.saved_test.proofs.Sizes.{form-length}
 use Rattle.saved_test.proofs.Fields.{record-from, code-is, step-is, in-record, in-mass, in-count, in-masses-count, in-first, in-second, in-size, in-n, in-ones, in-record-size, in-mass-size}
 use Rattle.saved_test.proofs.Judged.{Known, known-at, Small, small, save-says, masses-cong}
+use Rattle.saved_test.proofs.HeldLaws.{record-held, part-held, words-held}
 use Rattle.saved_test.proofs.AlikeLaws.{sound-same}
 
 known-mark : (m : Mark) → markKnown (markCode m) (markStep m) ≡ true
@@ -105,21 +106,11 @@ module _ (p : Plan) (s : State) (words : List ℕ) (savable : Savable p s words)
 
   -- the test that the form holds
   record-at : (i : ℕ) → i < p .count → recordAt (stateIn p bytes) i ≡ recordAt s i
-  unfolding stateIn
-  record-at i l =
-      over-get (p .count) (λ i _. recordIn bytes i) (replicate countLimit startRecord) i noRecord l (omega (arith, ok .count-range, length-replicate countLimit startRecord))
-      ∙ record-back i l
+  record-at i l = record-held p bytes (ok .count-range .1) i l ∙ record-back i l
 
   pub part-at : (i : ℕ) → i < p .count
       → partAt i (wordsIn p bytes) ≡ filled (liveCount (recordAt s i)) (λ j. getD (partAt i words) j 0) (replicate wide 0)
-  unfolding wordsIn
-  part-at i l =
-      join-part (partIn bytes (p .count)) (p .count) (λ i l. rw (part-back i l) (filled-length wide (liveCount (recordAt s i)) (λ j. getD (partAt i words) j 0))) i l
-      ∙ part-back i l
-
-  words-size : length (wordsIn p bytes) ≡ wide * p .count
-  unfolding wordsIn
-  words-size = join-length (partIn bytes (p .count)) wide (p .count) (λ i l. rw (part-back i l) (filled-length wide (liveCount (recordAt s i)) (λ j. getD (partAt i words) j 0)))
+  part-at i l = part-held p bytes i l ∙ part-back i l
 
   live-back : (i : ℕ) → i < p .count → liveMasses (recordAt s i) (partAt i (wordsIn p bytes)) ≡ liveMasses (recordAt s i) (partAt i words)
   live-back i l =
@@ -141,7 +132,7 @@ module _ (p : Plan) (s : State) (words : List ℕ) (savable : Savable p s words)
     ones-same = n-back .1;
     record-same = record-at;
     masses-same = live-back;
-    sizes = (judged .1 .0, words-size);
+    sizes = (judged .1 .0, words-held p bytes);
   }
 
   header-back : headerFits p bytes ≡ true

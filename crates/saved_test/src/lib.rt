@@ -1,4 +1,10 @@
-// A test saved through a power cut (saved 1 to 3): its form, written and read.
+// A test saved through a power cut (saved 1 to 4): its form, written and read.
+pub mod form;
+mod marks;
+pub mod reading;
+mod signed;
+pub mod writing;
+
 use bucket_test::State;
 
 // A test that was read, or the number of the refusal, 0 for none; a refused reading hands back zeros in every number and open marks.

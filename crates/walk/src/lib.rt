@@ -1,7 +1,7 @@
 // The walk of one threshold: its spending, its masses and its boundaries, one step at a time (rules 3).
 
 mod mass;
-mod row;
+pub mod row;
 pub mod soundness;
 pub mod spending;
 pub mod starting;

@@ -106,7 +106,7 @@ fn shift_down(part: &mut [u64], lo: usize, k: usize)
 }
 
 // Every word from k on becomes zero (rules 5.1).
-pub(crate) fn clear_from(part: &mut [u64], k: usize)
+pub fn clear_from(part: &mut [u64], k: usize)
     requires { ⌜ k ≤ length (now part) ⌝ }
     ensures { λ r. ⌜ now (part .exit) ≡ take k (now (part .entry)) ++ replicate (length (now (part .entry)) - k) 0 ⌝ }
 {

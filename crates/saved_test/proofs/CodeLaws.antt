@@ -1,0 +1,274 @@
+-- What the code of src/reading.rt leaves to do, in plain variables.
+use mathlib.Core.Path.{_≡_, refl, sym, ap, _∙_}
+use mathlib.Core.Logic.{_↔_}
+use mathlib.Core.List.{List, [], _∷_, _++_, append-assoc}
+use Prim.Native.Nat.{ℕ, zero, suc, _-_, _+_, _*_, _^_, _≤_, _<_}
+use native.Mathlib.Numerals.{add-one}
+use native.Mathlib.Omega.{arith}
+use mathlib.Core.Bool.{Bool, true, false, _&&_}
+use lib.ListN.{length, take, drop, set, getD, replicate, length-replicate, replicate-append-replicate}
+use lib.Seq.{drop-cons, set-at, take-suc, take-at, length-take-le}
+use Rattle.walk.specs.Units.{wide}
+use Rattle.walk.proofs.Tests.{and-true, le?-complete, le?-fails}
+use Rattle.walk.specs.Numbers.{le?}
+use lib.Dec.{eqb}
+use lib.IntN.{ℤ}
+use Rattle.plan.specs.Places.{eq?, allTo, unless, firstRefusal, joinTo}
+use Rattle.plan.proofs.PlaceLaws.{eq?-complete, eq?-fails, eq-reads, all-reads, first-some, none-both, none-says, last-says}
+use mir.Syntax.{w32}
+use mir.Val.{Fits, SFits, toZ, ofZ}
+use mir.ValLaws.{toZ-ofZ, toZ-fits}
+use Rattle.walk.specs.declared.Mark.{Mark}
+use Rattle.bucket_test.specs.declared.Threshold.{Threshold}
+use Rattle.little.specs.Little.{field, column}
+use Rattle.little.specs.Little.{filled}
+use Rattle.little.proofs.FilledLaws.{filled-length, filled-over}
+use Rattle.plan.specs.declared.Plan.{Plan}
+use Rattle.bucket_test.specs.declared.State.{State}
+use Rattle.plan.specs.Plan.{spendingOf, planRefusal}
+use Rattle.plan.proofs.AcceptedLaws.{accepted}
+use Rattle.bucket_test.specs.Words.{wordsFit}
+use Rattle.bucket_test.specs.Turn.{recordAt, recordSound, recordSoundAt}
+use Rattle.bucket_test.specs.Draw.{stateSound, noState}
+use Rattle.saved_test.specs.declared.Loaded.{Loaded}
+use Rattle.saved_test.specs.Form.{massSize, recordOffset, formSize, liveCount, massesTo}
+use Rattle.saved_test.specs.Reading.{markOf, markKnown, recordFrom, recordIn, recordFits, massOffset, partIn, massesIn, headerFits, formFits, stateIn, wordsIn, readRefusal, loaded, wordsAfter}
+use Rattle.saved_test.proofs.HeldLaws.{record-held, part-held}
+use Rattle.saved_test.proofs.BytesBack.{few-by, masses-within, fitting}
+
+-- a record from its fields
+pub record-made : (bytes : List ℕ) (at code step bits upper over under : ℕ) (m : Mark) (z : ℤ)
+    → code ≡ field 4 at bytes → step ≡ field 4 (at + 4) bytes → bits ≡ field 4 (at + 8) bytes → bits < 256 ^ 4 → upper ≡ field 4 (at + 12) bytes
+    → over ≡ field 8 (at + 16) bytes → under ≡ field 8 (at + 24) bytes → m ≡ markOf code step → z ≡ toZ w32 bits
+    → _≡_ {A = Threshold} (record { mark = m; walked = record { lower = toZ w32 (ofZ w32 z); upper = upper; over = over; under = under } }) (recordFrom bytes at)
+unfolding recordFrom
+record-made bytes at code step bits upper over under m z c s b small u o n mark low =
+    let fits = toZ-fits w32 bits (record { fits = omega arith }) in
+    rw (mark, low, toZ-ofZ w32 (toZ w32 bits) fits, c, s, b, u, o, n)
+
+-- a field that was read is compared with a number
+module _ {r v x : ℕ} (e : r ≡ v) where
+  pub yes : r ≡ x → eq? v x ≡ true
+  yes h = eq?-complete v x (sym e ∙ h)
+
+  pub no : ¬ (r ≡ x) → eq? v x ≡ false
+  no h = eq?-fails v x (λ q. h (e ∙ q))
+
+pub as-read : {r v : ℕ} → r ≡ v → (x : ℕ) → eqb r x ≡ eq? v x
+unfolding eq?
+as-read e x = ap (λ (y : ℕ). eqb y x) e
+
+-- a copy of so many words
+pub copy-more : (d s : List ℕ) (i : ℕ) → i < length d → i < length s → set (take i s ++ drop i d) i (getD s i 0) ≡ take (i + 1) s ++ drop (i + 1) d
+copy-more d s i h k =
+    rw (
+      drop-cons d i 0 h,
+      set-at (take i s) (getD d i 0) (drop (suc i) d) (getD s i 0) i (length-take-le i s (omega arith)),
+      add-one i,
+      take-suc s i 0 k,
+    ) (sym (append-assoc (take i s) (getD s i 0 ∷ []) (drop (suc i) d)))
+
+-- ---- refusal 15, test by test
+
+module _ (p : Plan) (bytes : List ℕ) where
+  pub fits-short : length bytes < 24 + 32 * p .count → false ≡ formFits p bytes
+  unfolding formFits formSize recordOffset
+  fits-short h = rw (eq?-fails (length bytes) (formSize (p .count) (massesIn p bytes)) (λ e. omega arith))
+
+  module _ (masses : ℕ) (is : masses ≡ massesIn p bytes) where
+    pub fits-size : ¬ (length bytes ≡ 24 + 32 * p .count + 8 * masses) → false ≡ formFits p bytes
+    unfolding formFits formSize recordOffset
+    fits-size n = rw (eq?-fails (length bytes) (formSize (p .count) (massesIn p bytes)) (λ e. n (omega arith)))
+
+    abbrev header : Bool
+    header =
+        eq? (field 2 0 bytes) (p .count)
+        && (eq? (field 2 2 bytes) masses
+        && (eq? (field 2 4 bytes) 24
+        && (eq? (field 2 6 bytes) (24 + 32 * p .count)
+        && (eq? (field 4 8 bytes) (24 + 32 * p .count + 8 * masses)
+        && (eq? (field 2 20 bytes) 32
+        && eq? (field 2 22 bytes) 8)))))
+
+    header-is : header ≡ headerFits p bytes
+    unfolding headerFits formSize recordOffset
+    header-is = rw is
+
+    module _ (size : length bytes ≡ 24 + 32 * p .count + 8 * masses) where
+      sized : eq? (length bytes) (formSize (p .count) (massesIn p bytes)) ≡ true
+      unfolding formSize recordOffset
+      sized = eq?-complete _ _ (omega arith)
+
+      pub fits-header : header ≡ false → false ≡ formFits p bytes
+      unfolding formFits
+      fits-header h = rw (sized, sym header-is ∙ h)
+
+      pub fits-records : header ≡ true → (r : Bool) → r ≡ allTo (p .count) (recordFits bytes) → r ≡ formFits p bytes
+      unfolding formFits
+      fits-records h r e = rw (sized, sym header-is ∙ h) e
+
+-- ---- the masses of one threshold, where the form fits
+
+module _ (bytes : List ℕ) (count i : ℕ) (l : i < count) (known : allTo count (recordFits bytes) ≡ true)
+    (size : length bytes ≡ formSize count (massesTo (recordIn bytes) count)) where
+  pub part-few : liveCount (recordIn bytes i) ≤ wide
+  unfolding recordFits
+  part-few =
+      few-by (recordIn bytes i .mark) (recordIn bytes i .walked)
+      (and-true (markKnown (field 4 (recordOffset i) bytes) (field 4 (recordOffset i + 4) bytes)) _ (all-reads (recordFits bytes) count .0 known i l) .1)
+
+  pub part-inside : massOffset bytes count i + 8 * liveCount (recordIn bytes i) ≤ length bytes
+  unfolding massOffset formSize
+  part-inside = omega (arith, size, masses-within (recordIn bytes) count i l)
+
+-- the next offset
+pub offset-next : (bytes : List ℕ) (count i : ℕ) → massOffset bytes count i + 8 * liveCount (recordIn bytes i) ≡ massOffset bytes count (i + 1)
+unfolding massOffset massesTo
+offset-next bytes count i = rw (add-one i) (omega arith)
+
+pub offset-first : (bytes : List ℕ) (count : ℕ) → 24 + 32 * count ≡ massOffset bytes count 0
+unfolding massOffset massesTo recordOffset
+offset-first bytes count = omega arith
+
+-- a part whose rest is cleared and whose first words are filled
+pub part-filled : (count : ℕ) (f : ℕ → ℕ) (q q′ q″ : List ℕ) → length q ≡ wide → count ≤ wide
+    → q′ ≡ take count q ++ replicate (length q - count) 0 → q″ ≡ filled count f q′ → q″ ≡ filled count f (replicate wide 0)
+part-filled count f q q′ q″ size few e h =
+    let rest : List ℕ = replicate (length q - count) 0 in
+    let sum : count + (length q - count) ≡ wide = omega (arith, size, few) in
+    let whole : replicate count 0 ++ rest ≡ replicate wide 0 = replicate-append-replicate count (length q - count) 0 ∙ rw sum in
+    h ∙ ap (filled count f) e
+    ∙ filled-over count f (take count q) (replicate count 0) rest (length-take-le count q (omega (arith, size, few))) (length-replicate count 0)
+    ∙ ap (filled count f) whole
+
+-- the part that was made
+pub part-made : (bytes : List ℕ) (count i n at : ℕ) (q : List ℕ) → n ≡ liveCount (recordIn bytes i) → at ≡ massOffset bytes count i
+    → q ≡ filled n (column 8 at 8 bytes) (replicate wide 0) → q ≡ partIn bytes count i
+unfolding partIn
+part-made bytes count i n at q e f h = h ∙ rw (e, f)
+
+-- what a form that fits asks of the functions that read it
+module _ (p : Plan) (bytes : List ℕ) (form : formFits p bytes ≡ true) where
+  pub form-long : 24 + 32 * p .count ≤ length bytes
+  unfolding formSize recordOffset
+  form-long = omega (arith, fitting p bytes form .sized)
+
+  pub form-sized : length bytes ≡ formSize (p .count) (massesTo (recordIn bytes) (p .count))
+  form-sized = fitting p bytes form .sized
+
+  pub form-known : allTo (p .count) (recordFits bytes) ≡ true
+  unfolding formFits
+  form-known = and-true (headerFits p bytes) _ (and-true (eq? (length bytes) (formSize (p .count) (massesIn p bytes))) _ form .1) .1
+
+-- ---- plan, 8 and 15, before the test is judged
+
+-- of a reading into m words
+abbrev pub formJudged : Plan → List ℕ → ℕ → ℕ
+formJudged p bytes m = firstRefusal (planRefusal p ∷ unless (eq? m (wide * p .count)) 8 ∷ unless (formFits p bytes) 15 ∷ [])
+
+module _ (p : Plan) (bytes : List ℕ) (m r : ℕ) (is : r ≡ planRefusal p) where
+  pub judged-plan : ¬ (r ≡ 0) → r ≡ formJudged p bytes m
+  judged-plan n = rw (← is) (sym (first-some r (unless (eq? m (wide * p .count)) 8 ∷ unless (formFits p bytes) 15 ∷ []) n))
+
+  module _ (good : r ≡ 0) where
+    pub judged-8 : ¬ (m ≡ wide * p .count) → 8 ≡ formJudged p bytes m
+    judged-8 n = rw (← is, good, eq?-fails m (wide * p .count) n)
+
+    pub judged-form : m ≡ wide * p .count → (b : Bool) → formFits p bytes ≡ b → unless b 15 ≡ formJudged p bytes m
+    judged-form size true e = rw (← is, good, eq?-complete m (wide * p .count) size, e)
+    judged-form size false e = rw (← is, good, eq?-complete m (wide * p .count) size, e)
+
+pub form-judged : (p : Plan) (bytes : List ℕ) (m : ℕ)
+    → (formJudged p bytes m ≡ 0) ↔ ((planRefusal p ≡ 0) × ((m ≡ wide * p .count) × (formFits p bytes ≡ true)))
+form-judged p bytes m =
+    none-both (planRefusal p) (unless (eq? m (wide * p .count)) 8 ∷ unless (formFits p bytes) 15 ∷ []) (λ e. e, λ e. e)
+    (none-says (eq? m (wide * p .count)) 7 (unless (formFits p bytes) 15 ∷ []) (eq-reads m (wide * p .count))
+    (last-says (formFits p bytes) 14 (λ e. e, λ e. e)))
+
+-- ---- refusal 11, part by part
+
+-- the threshold at place i passes
+abbrev pub passes : Plan → List ℕ → State → ℕ → Bool
+passes p bytes s i = recordSoundAt p (wordsIn p bytes) (s .n) (s .ones) i (recordAt s i)
+
+-- one threshold of a form that fits, with n masses from an offset on
+module _ (p : Plan) (bytes : List ℕ) (s : State) (good : planRefusal p ≡ 0) (form : formFits p bytes ≡ true) (is : s ≡ stateIn p bytes)
+    (i : ℕ) (l : i < p .count) (n at : ℕ) (live : n ≡ liveCount (recordAt s i)) (here : at ≡ massOffset bytes (p .count) i) where
+  live-held : n ≡ liveCount (recordIn bytes i)
+  live-held =
+      live ∙ ap (λ (z : State). liveCount (recordAt z i)) is
+      ∙ ap (λ (t : Threshold). liveCount t) (record-held p bytes (accepted p .0 good .count-range .1) i l)
+
+  pub held-few : n ≤ wide
+  held-few = rw live-held (part-few bytes (p .count) i l (form-known p bytes form) (form-sized p bytes form))
+
+  pub held-inside : at + massSize * n ≤ length bytes
+  held-inside = rw (live-held, here) (part-inside bytes (p .count) i l (form-known p bytes form) (form-sized p bytes form))
+
+  pub held-next : at + massSize * n ≡ massOffset bytes (p .count) (i + 1)
+  held-next = rw (live-held, here) (offset-next bytes (p .count) i)
+
+  pub held-passes : (q : List ℕ) → q ≡ filled n (column massSize at massSize bytes) (replicate wide 0)
+      → recordSound (spendingOf p i (s .n)) (s .n) (s .ones) (recordAt s i .mark) (recordAt s i) q ≡ passes p bytes s i
+  held-passes q e = rw (part-made bytes (p .count) i n at q live-held here e ∙ sym (part-held p bytes i l))
+
+module _ (p : Plan) (s : State) (words : List ℕ) where
+  pub sound-late : p .horizon < s .n → false ≡ stateSound p s words
+  unfolding stateSound
+  sound-late h = rw (le?-fails (s .n) (p .horizon) h)
+
+  module _ (early : s .n ≤ p .horizon) where
+    pub sound-ones : s .n < s .ones → false ≡ stateSound p s words
+    unfolding stateSound
+    sound-ones h = rw (le?-complete (s .n) (p .horizon) early, le?-fails (s .ones) (s .n) h)
+
+    pub sound-parts : s .ones ≤ s .n → (b : Bool) → b ≡ allTo (p .count) (λ i. recordSoundAt p words (s .n) (s .ones) i (recordAt s i)) → b ≡ stateSound p s words
+    unfolding stateSound
+    sound-parts h b e = rw (le?-complete (s .n) (p .horizon) early, le?-complete (s .ones) (s .n) h) e
+
+-- ---- each way out of a reading
+
+module _ (p : Plan) (bytes words : List ℕ) where
+  abbrev Hands : Loaded → List ℕ → Type 0
+  Hands r ws = (r ≡ loaded p bytes words) × (ws ≡ wordsAfter p bytes words)
+
+  some : (r : ℕ) → ¬ (r ≡ 0) → readRefusal p bytes words ≡ r → (l : Loaded) → l ≡ record { refusal = r; state = noState } → Hands l words
+  unfolding loaded wordsAfter
+  some zero n e l h = absurd (n refl)
+  some (suc r) n e l h = rw (e, h) (refl, refl)
+
+  abbrev sound : Bool
+  sound = stateSound p (stateIn p bytes) (wordsIn p bytes)
+
+  -- the same four tests, the first three of them judged first
+  by-form : readRefusal p bytes words ≡ firstRefusal (formJudged p bytes (length words) ∷ unless sound 11 ∷ [])
+  unfolding readRefusal wordsFit
+  by-form = go (planRefusal p) (eq? (length words) (wide * p .count)) (formFits p bytes) (unless sound 11)
+    where
+      go : (r : ℕ) (w f : Bool) (q : ℕ)
+          → firstRefusal (r ∷ unless w 8 ∷ unless f 15 ∷ q ∷ []) ≡ firstRefusal (firstRefusal (r ∷ unless w 8 ∷ unless f 15 ∷ []) ∷ q ∷ [])
+      go (suc r) w f q = refl
+      go zero false f q = refl
+      go zero true false q = refl
+      go zero true true q = refl
+
+  module _ (r : ℕ) (is : r ≡ formJudged p bytes (length words)) where
+    pub read-form : ¬ (r ≡ 0) → (l : Loaded) → l ≡ record { refusal = r; state = noState } → Hands l words
+    read-form n = some r n (by-form ∙ rw (← is) (first-some r (unless sound 11 ∷ []) n))
+
+    module _ (good : r ≡ 0) where
+      read-by : (b : Bool) → sound ≡ b → readRefusal p bytes words ≡ unless b 11
+      read-by true e = by-form ∙ rw (← is, good, e)
+      read-by false e = by-form ∙ rw (← is, good, e)
+
+      pub read-11 : sound ≡ false → (l : Loaded) → l ≡ record { refusal = 11; state = noState } → Hands l words
+      read-11 e = some 11 (λ z. omega arith) (read-by false e)
+
+      pub read-none : sound ≡ true → (s : State) → s ≡ stateIn p bytes → (ws : List ℕ) → ws ≡ wordsIn p bytes
+          → Hands (record { refusal = 0; state = s }) ws
+      unfolding loaded wordsAfter
+      read-none e s se ws we = rw (read-by true e, se, we) (refl, refl)
+
+pub words-made : (p : Plan) (bytes xs : List ℕ) → xs ≡ joinTo (p .count) (partIn bytes (p .count)) → xs ≡ wordsIn p bytes
+unfolding wordsIn
+words-made p bytes xs e = e

@@ -1,0 +1,59 @@
+use Rattle.saved_test.proofs.CodeLaws.{fits-short, fits-size, fits-header, fits-records}
+use Rattle.plan.proofs.PlaceLaws.{passed, failed}
+use borrow.Author.Needs.{needs}
+use Rattle.saved_test.proofs.reading.form_fits.Statement.{statement}
+use Rattle.saved_test.proofs.reading.form_fits.Tie as tie
+use Rattle.saved_test.proofs.reading.form_fits.Reads as reads
+
+cast-count : tie.Need-cast-count
+cast-count c = search needs
+
+mul-offset : tie.Need-mul-offset
+mul-offset c = search needs
+
+add-offset : tie.Need-add-offset
+add-offset c = search needs
+
+returns : tie.Need-returns
+returns c = fits-short _ _ (c .if1 .taken)
+
+masses-in-requires : tie.Need-masses-in-requires
+masses-in-requires c κs = search needs
+
+mul-size : tie.Need-mul-size
+mul-size c = search needs
+
+add-size : tie.Need-add-size
+add-size c = search needs
+
+returns-2 : tie.Need-returns-2
+returns-2 c = fits-size _ _ (c .before .masses-in .result) (c .before .masses-in .ensures .0) (c .if2 .taken)
+
+header-fits-requires : tie.Need-header-fits-requires
+header-fits-requires c κs = search needs
+
+returns-3 : tie.Need-returns-3
+returns-3 c = let m = c .before .before .before .masses-in in fits-header _ _ (m .result) (m .ensures .0) (c .before .before .if2 .left) (failed (c .before .header-fits .ensures) (c .if3 .taken))
+
+records-fit-requires : tie.Need-records-fit-requires
+records-fit-requires c κs = search needs
+
+returns-4 : tie.Need-returns-4
+returns-4 c = let m = c .before .before .before .before .masses-in in fits-records _ _ (m .result) (m .ensures .0) (c .before .before .before .if2 .left) (passed (c .before .before .header-fits .ensures) (c .before .if3 .left)) _ (c .records-fit .ensures)
+
+pub form-fits-spec : {M : Type 1} → statement M
+form-fits-spec =
+    tie.close
+    (tie.spec
+    cast-count
+    mul-offset
+    add-offset
+    returns
+    masses-in-requires
+    mul-size
+    add-size
+    returns-2
+    header-fits-requires
+    returns-3
+    records-fit-requires
+    returns-4)

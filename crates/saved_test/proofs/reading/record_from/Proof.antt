@@ -1,0 +1,78 @@
+use Rattle.saved_test.proofs.CodeLaws.{record-made}
+use Rattle.saved_test.specs.Reading.{recordFrom}
+use borrow.Author.Needs.{needs}
+use Rattle.saved_test.proofs.reading.record_from.Statement.{statement}
+use Rattle.saved_test.proofs.reading.record_from.Tie as tie
+use Rattle.saved_test.proofs.reading.record_from.Reads as reads
+
+read-u32-requires : tie.Need-read-u32-requires
+read-u32-requires c κs = search needs
+
+add-read-u32 : tie.Need-add-read-u32
+add-read-u32 c = search needs
+
+read-u32-requires-2 : tie.Need-read-u32-requires-2
+read-u32-requires-2 c κs = search needs
+
+add-read-u32-2 : tie.Need-add-read-u32-2
+add-read-u32-2 c = search needs
+
+read-u32-requires-3 : tie.Need-read-u32-requires-3
+read-u32-requires-3 c κs = search needs
+
+add-read-u32-3 : tie.Need-add-read-u32-3
+add-read-u32-3 c = search needs
+
+read-u32-requires-4 : tie.Need-read-u32-requires-4
+read-u32-requires-4 c κs = search needs
+
+add-read-le : tie.Need-add-read-le
+add-read-le c = search needs
+
+read-le-requires : tie.Need-read-le-requires
+read-le-requires c κs = search needs
+
+add-read-le-2 : tie.Need-add-read-le-2
+add-read-le-2 c = search needs
+
+read-le-requires-2 : tie.Need-read-le-requires-2
+read-le-requires-2 c κs = search needs
+
+mark-of-requires : tie.Need-mark-of-requires
+mark-of-requires c κs = search needs
+
+signed-of-requires : tie.Need-signed-of-requires
+signed-of-requires c κs = search needs
+
+returns : tie.Need-returns
+returns c =
+    let b = c .before .before in
+    record-made _ _ _ _ _ _ _ _ _ _
+    (b .before .before .before .before .before .read-u32 .ensures .0)
+    (b .before .before .before .before .read-u322 .ensures .0)
+    (b .before .before .before .read-u323 .ensures .0)
+    (b .before .before .before .read-u323 .ensures .1)
+    (b .before .before .read-u324 .ensures .0)
+    (b .before .read-le .ensures .0)
+    (b .read-le2 .ensures .0)
+    (c .before .mark-of .ensures)
+    (c .signed-of .ensures)
+
+pub record-from-spec : {M : Type 1} → statement M
+record-from-spec =
+    tie.close
+    (tie.spec
+    read-u32-requires
+    add-read-u32
+    read-u32-requires-2
+    add-read-u32-2
+    read-u32-requires-3
+    add-read-u32-3
+    read-u32-requires-4
+    add-read-le
+    read-le-requires
+    add-read-le-2
+    read-le-requires-2
+    mark-of-requires
+    signed-of-requires
+    returns)
