@@ -1,4 +1,4 @@
--- Demand 3 over power cuts (specs/Moves).
+-- Demand 3 over power cuts (specs/Saves).
 use mathlib.Core.Path.{_≡_, refl, sym, ap, _∙_}
 use mathlib.Core.Bool.{Bool, true, false}
 use mathlib.Core.Logic.{_⊎_, inl, inr, ⊎-elim}
@@ -19,29 +19,32 @@ use Rattle.plan.specs.Plan.{thresholdAt, spendingOf, planRefusal, Accepted}
 use Rattle.bucket_test.specs.Words.{partAt, Stands}
 use Rattle.bucket_test.specs.Turn.{recordAt}
 use Rattle.bucket_test.specs.Answers.{answerOf, refusalOf}
-use Rattle.bucket_test.specs.Draw.{Outcome, begun, drawn, stateSound}
-use Rattle.bucket_test.specs.Carried.{carried, taken}
-use Rattle.bucket_test.specs.Demand3.{Demand3}
+use Rattle.bucket_choice.specs.Choice.{chosenBucket}
+use Rattle.bucket_test.specs.Draw.{Outcome, begun, drawRefusal, drawnBy, drawn, stateSound}
+use Rattle.bucket_test.specs.Carried.{carriedOver, carried, hasEnded, taken}
+use Rattle.bucket_test.specs.Demand3.{AnswersDraw, Answered, Demand3}
 use Rattle.plan.specs.declared.Plan.{Plan}
 use Rattle.bucket_test.specs.declared.State.{State}
 use Rattle.walk.proofs.Signed.{below-fits}
 use Rattle.walk.proofs.Agreement.{in-order}
 use Rattle.plan.proofs.AcceptedLaws.{accepted, threshold-ok, spends}
-use Rattle.bucket_test.proofs.AnsweringLaws.{rule-answers}
+use Rattle.bucket_test.proofs.Refusing.{refused-stays}
+use Rattle.bucket_test.proofs.DrawingLaws.{drawn-by}
 use Rattle.bucket_test.proofs.Invariant.{words-fit, state-sound}
 use Rattle.bucket_test.proofs.Demand.{held, demand-3}
 use Rattle.plan.proofs.PlaceLaws.{le-or-lt}
 use Rattle.bucket_test.proofs.PartLaws.{words-say}
 use Rattle.little.specs.Little.{filled}
 use Rattle.little.proofs.FilledLaws.{filled-length, filled-get, filled-past}
-use Rattle.saved_test.specs.Form.{gap, liveBy, liveCount, markStep, savedForm}
-use Rattle.saved_test.specs.Alike.{Alike, SameParts}
-use Rattle.saved_test.specs.Writing.{Typed, TypedTo, saveRefusal}
+use Rattle.saved_test.specs.Form.{countsBetween, liveBy, liveCount, markStep, savedForm}
+use Rattle.saved_test.specs.Alike.{Alike}
+use Rattle.saved_test.specs.Writing.{saveRefusal}
 use Rattle.saved_test.specs.Reading.{stateIn, wordsIn, readRefusal}
-use Rattle.saved_test.specs.Codec.{Savable}
-use Rattle.resumed_test.specs.Moves.{Move, Draw, Save, drawsOf, Lends, reloadRefusal, reloadedBy, reloaded, moved, AnsweredSame, Recorded, lastWalk, stateNow, partNow, Demand3Saved, Demand3SavedTheorem}
+use Rattle.saved_test.specs.RoundTrip.{Typed, Savable}
+use Rattle.resumed_test.specs.Saves.{Move, Draw, Save, drawsOf, Lends, reloadRefusal, reloadedBy, reloaded, moved, AnsweredOver, Recorded, lastWalk, stateNow, partNow, Demand3Saved, Demand3SavedTheorem}
 use Rattle.saved_test.proofs.Judged.{save-says, gap-below, in-time, known-at}
-use Rattle.resumed_test.proofs.Simulation.{answer-same, sound-same, drawn-alike, drawn-parts, alike-trans}
+use Rattle.saved_test.proofs.AlikeLaws.{sound-same, alike-trans}
+use Rattle.resumed_test.proofs.Simulation.{SameParts, drawn-alike, drawn-parts}
 use Rattle.saved_test.proofs.TestBack.{alike-back, part-at, not-refused}
 
 -- a part whose words behind the live masses are zero is what a reading makes of those masses
@@ -106,7 +109,7 @@ module _ (p : Plan) (ok : Accepted p) (words : List ℕ) (size : length words �
   carried-savable = record { accepted = save-says p (c .state) (c .words) .1 (accepted p .1 ok, (carried-size, carried-sound)); typed = carried-typed }
 
   -- a test that is alike can be saved ..
-  module _ (s : State) (ws : List ℕ) (h : Alike p (c .state) (c .words) s ws) (same : SameParts p (c .state) (c .words) s ws) where
+  module _ (s : State) (ws : List ℕ) (h : Alike p (c .state) (c .words) s ws) (same : SameParts p (c .state) (c .words) ws) where
     savable : Savable p s ws
     savable = record {
       accepted = save-says p s ws .1 (accepted p .1 ok, (h .sizes .1, sound-same p (c .state) (c .words) s ws h ∙ carried-sound));
@@ -135,8 +138,8 @@ module _ (p : Plan) (ok : Accepted p) (words : List ℕ) (size : length words �
           let w = rw e at (demand-3 p ok words size ds .stands i l) in
           let first = walk (thresholdAt p i) (spendingOf p i) n .first in
           let r = recordAt (c .state) i .walked in
-          let g : gap (r .lower) (r .upper) ≡ r .upper - first = ap (λ (z : ℤ). gap z (r .upper)) (w .lower-is) ∙ gap-below first (r .upper) in
-          fill-whole (gap (r .lower) (r .upper)) wide _ (partAt i (c .words)) (w .size) (omega (arith, g, w .fits, w .upper-is))
+          let g : countsBetween (r .lower) (r .upper) ≡ r .upper - first = ap (λ (z : ℤ). countsBetween z (r .upper)) (w .lower-is) ∙ gap-below first (r .upper) in
+          fill-whole (countsBetween (r .lower) (r .upper)) wide _ (partAt i (c .words)) (w .size) (omega (arith, g, w .fits, w .upper-is))
           (λ j. rw q) (λ j k. w .zeros j (omega (arith, g, w .upper-is)))
 
       settled-part : (m : Mark) → ¬ (m ≡ Open) → filled-part m ≡ replicate wide 0
@@ -145,7 +148,7 @@ module _ (p : Plan) (ok : Accepted p) (words : List ℕ) (size : length words �
       settled-part (Above u) n = refl
       settled-part (AtMost u) n = refl
 
-    back-parts : SameParts p (c .state) (c .words) (stateIn p form) (wordsIn p form)
+    back-parts : SameParts p (c .state) (c .words) (wordsIn p form)
     back-parts i l = go (recordAt (c .state) i .mark) refl (same i l)
       where
         settled-back : (m : Mark) → recordAt (c .state) i .mark ≡ m → ¬ (m ≡ Open)
@@ -167,22 +170,31 @@ module _ (p : Plan) (ok : Accepted p) (words : List ℕ) (size : length words �
 
 -- ---- every list of draws and saves
 
+-- a draw that is not refused is answered by the rule
+drawn-by-rule : (p : Plan) (s : State) (ws : List ℕ) (d : ℕ) → refusalOf (drawn p s ws d .answer) ≡ 0 → drawn p s ws d .answer ≡ answerOf p (drawn p s ws d .state)
+drawn-by-rule p s ws d = rw (drawn-by p s ws d _ refl) (go (drawRefusal p s ws d))
+  where
+    go : (r : ℕ) → refusalOf (drawnBy chosenBucket r p s ws d .answer) ≡ 0
+        → drawnBy chosenBucket r p s ws d .answer ≡ answerOf p (drawnBy chosenBucket r p s ws d .state)
+    go zero e = refl
+    go (suc r) e = absurd (omega arith)
+
 module _ (p : Plan) (ok : Accepted p) (words : List ℕ) (size : length words ≡ wide * p .count) where
   abbrev c′ : List Move → Outcome
   c′ ms = carried p words (drawsOf ms)
 
   pub record Together (ms : List Move) : Type 0 where
     pub alike : Alike p (c′ ms .state) (c′ ms .words) (moved p words ms .state) (moved p words ms .words)
-    pub parts : SameParts p (c′ ms .state) (c′ ms .words) (moved p words ms .state) (moved p words ms .words)
-    pub answered : AnsweredSame p words ms
+    pub parts : SameParts p (c′ ms .state) (c′ ms .words) (moved p words ms .words)
+    pub answered : AnsweredOver p words ms
 
   -- one move more
   moved-none : moved p words [] ≡ carried p words []
-  unfolding moved carried
+  unfolding moved carriedOver
   moved-none = refl
 
   carried-draw : (d : ℕ) (ds : List ℕ) → carried p words (d ∷ ds) ≡ drawn p (carried p words ds .state) (carried p words ds .words) d
-  unfolding carried
+  unfolding carriedOver
   carried-draw d ds = refl
 
   moved-draw : (d : ℕ) (ms : List Move) → moved p words (Draw d ∷ ms) ≡ drawn p (moved p words ms .state) (moved p words ms .words) d
@@ -194,14 +206,29 @@ module _ (p : Plan) (ok : Accepted p) (words : List ℕ) (size : length words �
   unfolding moved reloaded
   moved-save lent ms z = rw z
 
+  -- a draw is answered as demand 3 says, where it is answered as the carried test
+  answers : (d : ℕ) (ms : List Move)
+      → drawn p (moved p words ms .state) (moved p words ms .words) d .answer ≡ drawn p (c′ ms .state) (c′ ms .words) d .answer
+      → AnswersDraw p d (hasEnded p words (drawsOf ms)) (moved p words (Draw d ∷ ms))
+  unfolding Answered
+  answers d ms e =
+      let a = demand-3 p ok words size (d ∷ drawsOf ms) .answered .0 in
+      let same = ap (λ (o : Outcome). o .answer) (moved-draw d ms) ∙ e ∙ ap (λ (o : Outcome). o .answer) (sym (carried-draw d (drawsOf ms))) in
+      record {
+        by-9 = rw same (a .by-9);
+        by-10 = rw same (a .by-10);
+        by-no-other = rw same (a .by-no-other);
+        by-rule = rw (moved-draw d ms) (drawn-by-rule p (moved p words ms .state) (moved p words ms .words) d);
+      }
+
   together : (ms : List Move) → Lends p ms → Together ms
-  unfolding drawsOf Lends AnsweredSame
+  unfolding drawsOf Lends AnsweredOver Answered
   together [] lends =
       let z = carried-size p ok words size [] in
       record {
         alike = rw moved-none record { n-same = refl; ones-same = refl; record-same = λ i l. refl; masses-same = λ i l. refl; sizes = (z, z) };
         parts = rw moved-none (λ i l. inl refl);
-        answered = ap (λ (o : Outcome). o .answer) moved-none;
+        answered = ap (λ (o : Outcome). o .answer) moved-none ∙ demand-3 p ok words size [] .answered;
       }
   together (Draw d ∷ ms) lends =
       let t = together ms lends in
@@ -209,17 +236,18 @@ module _ (p : Plan) (ok : Accepted p) (words : List ℕ) (size : length words �
       record {
         alike = rw (moved-draw d ms, carried-draw d (drawsOf ms)) (k .alike);
         parts = rw (moved-draw d ms, carried-draw d (drawsOf ms)) (drawn-parts p _ _ _ _ (t .alike) d (t .parts));
-        answered = (rw (moved-draw d ms, carried-draw d (drawsOf ms)) (k .answer-same), t .answered);
+        answered = (answers d ms (k .answer-same), rw (moved-draw d ms, carried-draw d (drawsOf ms)) (k .answer-same), t .answered);
       }
   together (Save lent ∷ ms) lends =
       let t = together ms (lends .1) in
       let s = moved p words ms .state in
       let ws = moved p words ms .words in
-      let z = moved-save lent ms (reload-none p ok words size (drawsOf ms) s ws (t .alike) (t .parts) lent (lends .0)) in
+      let none = reload-none p ok words size (drawsOf ms) s ws (t .alike) (t .parts) lent (lends .0) in
+      let z = moved-save lent ms none in
       record {
         alike = rw z (back-alike p ok words size (drawsOf ms) s ws (t .alike) (t .parts));
         parts = rw z (back-parts p ok words size (drawsOf ms) s ws (t .alike) (t .parts));
-        answered = (rw z (rule-answers p (stateIn p (savedForm p s ws))), t .answered);
+        answered = (none, t .answered);
       }
 
 -- what demand 3 says of the carried test, of the test at hand
@@ -239,8 +267,9 @@ module _ (p : Plan) (ok : Accepted p) (words : List ℕ) (size : length words �
 
   whole : Demand3Saved p words ms
   whole = record {
-    demand = d;
+    alone = d;
     answered = t .answered;
+    refused-stays = λ x. rw (moved-draw p ok words size x ms) (refused-stays p (stateNow p words ms) (moved p words ms .words) x);
     n-is = t .alike .n-same ∙ d .n-is;
     ones-is = t .alike .ones-same ∙ d .ones-is;
     marks = λ i l. rw (t .alike .record-same i l) (d .marks i l);

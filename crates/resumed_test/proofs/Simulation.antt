@@ -1,4 +1,4 @@
--- Tests that are alike are refused alike, answer alike, and are alike after a draw (specs/Alike, specs/Codec: Simulation).
+-- Tests that are alike are refused alike, answer alike, and are alike after a draw (specs/EverAfter: Simulation).
 use mathlib.Core.Path.{_≡_, refl, sym, ap, _∙_}
 use mathlib.Core.Bool.{Bool, true, false, _&&_}
 use mathlib.Core.Logic.{_⊎_, inl, inr, ⊎-elim}
@@ -22,7 +22,8 @@ use Rattle.plan.specs.Plan.{thresholdAt, spendingOf, planRefusal}
 use Rattle.bucket_test.specs.Words.{partAt, wordsFit}
 use Rattle.bucket_test.specs.Turn.{recordAt, turnRecord, turnPart, recordSound, recordTurn, partTurn, recordSoundAt, wideOpen}
 use Rattle.bucket_test.specs.Answers.{lowOf, highOf, anyWide, answerBy, answerOf, isEnding}
-use Rattle.bucket_test.specs.Draw.{Outcome, stateSound, drawRefusal, nextState, nextWords, drawnBy, drawn}
+use Rattle.bucket_choice.specs.Choice.{chosenBucket}
+use Rattle.bucket_test.specs.Draw.{Outcome, drawRefusalOver, drawRefusal, nextState, nextWords, drawnBy, drawn}
 use Rattle.plan.specs.declared.Plan.{Plan}
 use Rattle.bucket_test.specs.declared.Threshold.{Threshold}
 use Rattle.bucket_test.specs.declared.State.{State}
@@ -30,9 +31,15 @@ use Rattle.plan.proofs.PlaceLaws.{all-cong, any-cong, largest-cong, smallest-co
 use Rattle.bucket_test.proofs.PartLaws.{words-say}
 use Rattle.bucket_test.proofs.OneStep.{drawn-says, record-next, part-next, one-step-holds}
 use Rattle.bucket_test.proofs.DrawingLaws.{drawn-by}
-use Rattle.saved_test.specs.Form.{gap, liveBy, liveCount}
-use Rattle.saved_test.specs.Alike.{liveMasses, Alike, SameParts}
-use Rattle.saved_test.specs.Codec.{drawnAfter, AlikeAfter, Simulation}
+use Rattle.saved_test.specs.Form.{liveBy, liveCount}
+use Rattle.saved_test.specs.Alike.{liveMasses, Alike}
+use Rattle.saved_test.proofs.AlikeLaws.{row-same, answer-same, words-same, sound-same}
+use Rattle.resumed_test.specs.EverAfter.{drawnAfter, AlikeAfter, Simulation}
+
+-- of an open threshold all 769 words are the same; of a settled one they are the same, or zeros
+abbrev pub SameParts : Plan → State → List ℕ → List ℕ → Type 0
+SameParts p s words words′ = (i : ℕ) → i < p .count
+    → (partAt i words′ ≡ partAt i words) ⊎ ((¬ (recordAt s i .mark ≡ Open)) × (partAt i words′ ≡ replicate wide 0))
 
 -- ---- one threshold
 
@@ -57,8 +64,8 @@ module _ (t : Threshold) (part part′ : List ℕ) where
 module _ (p : Plan) (s : State) (words : List ℕ) (s′ : State) (words′ : List ℕ) (h : Alike p s words s′ words′) where
   module _ (d : ℕ) where
     pub refusal-same : drawRefusal p s′ words′ d ≡ drawRefusal p s words d
-    unfolding drawRefusal
-    refusal-same = rw (words-same, answer-same, sound-same)
+    unfolding drawRefusalOver
+    refusal-same = rw (words-same p s words s′ words′ h, answer-same p s words s′ words′ h, sound-same p s words s′ words′ h)
 
     -- a draw that nothing refuses
     module _ (none : drawRefusal p s words d ≡ 0) where
@@ -112,7 +119,7 @@ module _ (p : Plan) (s : State) (words : List ℕ) (s′ : State) (words′ : Li
           }
 
       -- the words of an open threshold are those of its step, whole; a settled one keeps its own
-      next-parts : SameParts p s words s′ words′ → SameParts p (nextState p s words d) (nextWords p s words d) (nextState p s′ words′ d) (nextWords p s′ words′ d)
+      next-parts : SameParts p s words words′ → SameParts p (nextState p s words d) (nextWords p s words d) (nextWords p s′ words′ d)
       next-parts same i l = go (t i l .mark) refl (same i l)
         where
           go : (m : Mark) → recordAt s i .mark ≡ m
@@ -132,18 +139,18 @@ module _ (p : Plan) (s : State) (words : List ℕ) (s′ : State) (words′ : Li
   drawn-alike =
       rw (drawn-by p s words d _ refl, drawn-by p s′ words′ d _ (refusal-same p s words s′ words′ h d)) (go (drawRefusal p s words d) refl)
     where
-      go : (r : ℕ) → drawRefusal p s words d ≡ r → AlikeAfter p (drawnBy r p s words d) (drawnBy r p s′ words′ d)
+      go : (r : ℕ) → drawRefusal p s words d ≡ r → AlikeAfter p (drawnBy chosenBucket r p s words d) (drawnBy chosenBucket r p s′ words′ d)
       go zero e = let k = next-alike p s words s′ words′ h d e in record { answer-same = answer-same p _ _ _ _ k; alike = k }
       go (suc r) e = record { answer-same = refl; alike = h }
 
   abbrev Parts : Outcome → Outcome → Type 0
-  Parts o o′ = SameParts p (o .state) (o .words) (o′ .state) (o′ .words)
+  Parts o o′ = SameParts p (o .state) (o .words) (o′ .words)
 
-  pub drawn-parts : SameParts p s words s′ words′ → Parts (drawn p s words d) (drawn p s′ words′ d)
+  pub drawn-parts : SameParts p s words words′ → Parts (drawn p s words d) (drawn p s′ words′ d)
   drawn-parts same =
       rw (drawn-by p s words d _ refl, drawn-by p s′ words′ d _ (refusal-same p s words s′ words′ h d)) (go (drawRefusal p s words d) refl)
     where
-      go : (r : ℕ) → drawRefusal p s words d ≡ r → Parts (drawnBy r p s words d) (drawnBy r p s′ words′ d)
+      go : (r : ℕ) → drawRefusal p s words d ≡ r → Parts (drawnBy chosenBucket r p s words d) (drawnBy chosenBucket r p s′ words′ d)
       go zero e = next-parts p s words s′ words′ h d e same
       go (suc r) e = same
 

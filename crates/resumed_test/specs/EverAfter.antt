@@ -8,7 +8,7 @@ use Rattle.plan.specs.declared.Plan.{Plan}
 use Rattle.bucket_test.specs.declared.State.{State}
 use Rattle.saved_test.specs.Form.{savedForm}
 use Rattle.saved_test.specs.Alike.{Alike}
-use Rattle.saved_test.specs.Codec.{Savable}
+use Rattle.saved_test.specs.RoundTrip.{Savable}
 use Rattle.saved_test.specs.Reading.{stateIn, wordsIn}
 
 -- a test after a list of draws, the latest first

@@ -1,3 +1,3 @@
 -- What a reader of this crate has to believe. Definitions only.
 pub mod EverAfter
-pub mod Moves
+pub mod Saves

@@ -1,4 +1,4 @@
--- A test carried from a beginning over draws and power cuts, and demand 3 of it. Lists are latest first, as in bucket_test/specs/Carried.
+-- A test carried from a beginning over draws and saves, and demand 3 of it (saved 5). Lists are latest first, as in bucket_test/specs/Carried.
 use mathlib.Core.Path.{_≡_}
 use mathlib.Core.List.{List, [], _∷_}
 use mathlib.Core.Logic.{_⊎_}
@@ -15,11 +15,11 @@ use Rattle.bucket_test.specs.Words.{partAt, Stands}
 use Rattle.bucket_test.specs.Turn.{recordAt}
 use Rattle.bucket_test.specs.Answers.{answerOf, refusalOf}
 use Rattle.bucket_test.specs.Draw.{Outcome, begun, drawn, noState}
-use Rattle.bucket_test.specs.Carried.{carried, taken}
-use Rattle.bucket_test.specs.Demand3.{Marks, Demand3}
+use Rattle.bucket_test.specs.Carried.{carried, hasEnded, taken}
+use Rattle.bucket_test.specs.Demand3.{Marks, AnswersDraw, Demand3}
 use Rattle.plan.specs.declared.Plan.{Plan}
 use Rattle.bucket_test.specs.declared.State.{State}
-use Rattle.bucket_test.specs.declared.Answer.the-variants.{Refused}
+use Rattle.bucket_test.specs.declared.Answer.the-variants.{Open as OpenAnswer, Refused}
 use Rattle.saved_test.specs.Form.{savedForm}
 use Rattle.saved_test.specs.Alike.{Alike}
 use Rattle.saved_test.specs.Writing.{saveRefusal}
@@ -66,11 +66,14 @@ moved p words (Save lent ∷ ms) = reloaded p (moved p words ms .state) (moved p
 -- ---- demand 3 over power cuts
 
 module _ (p : Plan) (words : List ℕ) where
-  -- each draw is answered as if there had been no power cut, and no save is refused
-  unfoldable pub AnsweredSame : List Move → Type 0
-  AnsweredSame [] = moved p words [] .answer ≡ carried p words [] .answer
-  AnsweredSame (Draw d ∷ ms) = (moved p words (Draw d ∷ ms) .answer ≡ carried p words (d ∷ drawsOf ms) .answer) × AnsweredSame ms
-  AnsweredSame (Save lent ∷ ms) = (refusalOf (moved p words (Save lent ∷ ms) .answer) ≡ 0) × AnsweredSame ms
+  -- each draw is answered as demand 3 says, and as if nothing had been saved; no save is refused
+  unfoldable pub AnsweredOver : List Move → Type 0
+  AnsweredOver [] = moved p words [] .answer ≡ OpenAnswer
+  AnsweredOver (Draw d ∷ ms) =
+      AnswersDraw p d (hasEnded p words (drawsOf ms)) (moved p words (Draw d ∷ ms))
+      × (moved p words (Draw d ∷ ms) .answer ≡ carried p words (d ∷ drawsOf ms) .answer)
+      × AnsweredOver ms
+  AnsweredOver (Save lent ∷ ms) = (reloadRefusal p (moved p words ms .state) (moved p words ms .words) lent ≡ 0) × AnsweredOver ms
 
   -- the record r holds the boundaries and spent masses of the walk w
   pub record Recorded (w : Walk) (r : Walked) : Type 0 where
@@ -80,7 +83,7 @@ module _ (p : Plan) (words : List ℕ) where
     pub under-is : r .under ≡ w .under
 
   module _ (ms : List Move) where
-    -- the draws taken: those of the draws alone that nothing refused; the state and the words at hand; the last step that a threshold walked
+    -- the draws taken, which are those of the draws alone; the state and the parts at hand; the walk of a threshold at the last step it walked
     abbrev pub drawsTaken : Draws
     drawsTaken = taken p words (drawsOf ms)
 
@@ -93,17 +96,20 @@ module _ (p : Plan) (words : List ℕ) where
     abbrev pub lastWalk : ℕ → Walk
     lastWalk i = walk (thresholdAt p i) (spendingOf p i) (lastStep (recordAt stateNow i .mark) (length drawsTaken))
 
-    -- every claim of demand 3 on the draws alone (refusals, answers, draws taken, chances), and what the test at hand is after them
     pub record Demand3Saved : Type 0 where
-      pub demand : Demand3 p words (drawsOf ms)
-      pub answered : AnsweredSame ms
+      -- every claim of demand 3 with the draws alone: refusals, draws taken, answers, facts, chances
+      pub alone : Demand3 p words (drawsOf ms)
+      -- and of the test at hand
+      pub answered : AnsweredOver ms
+      pub refused-stays : (d : ℕ) → ¬ (refusalOf (moved p words (Draw d ∷ ms) .answer) ≡ 0)
+          → (moved p words (Draw d ∷ ms) .state ≡ stateNow) × (moved p words (Draw d ∷ ms) .words ≡ moved p words ms .words)
       pub n-is : stateNow .n ≡ length drawsTaken
       pub ones-is : stateNow .ones ≡ ones drawsTaken
       pub marks : (i : ℕ) → i < p .count → Marks (thresholdAt p i) (spendingOf p i) drawsTaken (recordAt stateNow i .mark)
       pub recorded : (i : ℕ) → i < p .count → Recorded (lastWalk i) (recordAt stateNow i .walked)
       -- all 769 words of an open threshold are those of its last step; of a settled one so, or zeros after a save
       pub stands : (i : ℕ) → i < p .count
-          → (Stands (lastWalk i) (recordAt stateNow i .walked) (partNow i))
+          → Stands (lastWalk i) (recordAt stateNow i .walked) (partNow i)
           ⊎ ((¬ (recordAt stateNow i .mark ≡ Open)) × (partNow i ≡ replicate wide 0))
       -- the test that was never saved is alike
       pub same-test : Alike p (carried p words (drawsOf ms) .state) (carried p words (drawsOf ms) .words) stateNow (moved p words ms .words)
