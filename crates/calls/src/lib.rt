@@ -1,0 +1,1 @@
+// The calls from C over saved tests (saved 6, 7).
