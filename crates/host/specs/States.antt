@@ -12,6 +12,8 @@ use Rattle.bucket_test.specs.declared.Drawn.{Drawn}
 use Rattle.bucket_test.specs.declared.Report.{Report}
 use Rattle.host.specs.declared.HostRecord.{HostRecord}
 use Rattle.host.specs.declared.HostState.{HostState}
+use Rattle.saved_test.specs.declared.Loaded.{Loaded}
+use Rattle.host.specs.declared.HostTest.{HostTest}
 use Rattle.host.specs.declared.HostReport.{HostReport}
 
 -- ---- a mark: 1 above and 2 at most, at a step, any other number open
@@ -90,6 +92,9 @@ drawnOut d = record {
   ones = d .state .ones;
   records = map recordOut (d .state .records);
 }
+
+unfoldable pub loadedOut : Loaded → HostTest
+loadedOut l = record { refusal = l .refusal; n = l .state .n; ones = l .state .ones; records = map recordOut (l .state .records) }
 
 abbrev pub reportOut : Report → HostReport
 reportOut r = record { answer = answerCase (r .answer); number = answerNumber (r .answer); low = r .low; high = r .high }

@@ -13,7 +13,10 @@ use plan::COUNT_LIMIT;
 use plan::rules::plan_refusal;
 use plans::plan_in;
 use plans::plan_out;
+use saved_test::reading::read_test;
+use saved_test::writing::write_test;
 use states::drawn_out;
+use states::loaded_out;
 use states::report_out;
 use states::state_in;
 use stored_plan::reading::read_plan;
@@ -23,8 +26,10 @@ ghost use Rattle.plan.specs.Plan.{planRefusal};
 ghost use Rattle.bucket_test.specs.Draw.{drawnOf, begun, drawn, report};
 ghost use Rattle.stored_plan.specs.Reading.{decoded};
 ghost use Rattle.stored_plan.specs.Writing.{written, bytesAfter};
+ghost use Rattle.saved_test.specs.Reading.{loaded, wordsAfter};
+ghost use Rattle.saved_test.specs.Writing.{saved, bytesAfter as saveBytes};
 ghost use Rattle.host.specs.Plans.{planIn, planOut};
-ghost use Rattle.host.specs.States.{stateIn, drawnOut, reportOut};
+ghost use Rattle.host.specs.States.{stateIn, drawnOut, loadedOut, reportOut};
 
 // A plan, with the number of its refusal where one was asked for.
 #[repr(C)]
@@ -57,6 +62,15 @@ pub struct HostRecord {
 pub struct HostState {
     pub answer: u32,
     pub number: u32,
+    pub n: u32,
+    pub ones: u32,
+    pub records: [HostRecord; COUNT_LIMIT],
+}
+
+// A test that was read, with the number of the refusal.
+#[repr(C)]
+pub struct HostTest {
+    pub refusal: u32,
     pub n: u32,
     pub ones: u32,
     pub records: [HostRecord; COUNT_LIMIT],
@@ -145,5 +159,35 @@ pub extern "C" fn host_write_plan(p: HostPlan, bytes: &mut [u8]) -> HostWritten
     HostWritten {
         refusal: written.refusal,
         size: written.size,
+    }
+}
+
+#[no_mangle]
+pub extern "C" fn host_read_test(p: HostPlan, bytes: &[u8], words: &mut [u64]) -> HostTest
+    ensures { λ r. ⌜
+        (r ≡ loadedOut (loaded (planIn p) (now (bytes .entry)) (now (words .entry))))
+        × (now (words .exit) ≡ wordsAfter (planIn p) (now (bytes .entry)) (now (words .entry)))
+        ⌝ }
+{
+    loaded_out(read_test(plan_in(p), bytes, words))
+}
+
+#[no_mangle]
+pub extern "C" fn host_write_test(
+    p: HostPlan,
+    s: HostState,
+    words: &[u64],
+    bytes: &mut [u8],
+) -> HostWritten
+    ensures { λ r. ⌜
+        (r .refusal ≡ saved (planIn p) (stateIn s) (now (words .entry)) (now (bytes .entry)) .refusal)
+        × (r .size ≡ saved (planIn p) (stateIn s) (now (words .entry)) (now (bytes .entry)) .size)
+        × (now (bytes .exit) ≡ saveBytes (planIn p) (stateIn s) (now (words .entry)) (now (bytes .entry)))
+        ⌝ }
+{
+    let saved = write_test(plan_in(p), state_in(s), words, bytes);
+    HostWritten {
+        refusal: saved.refusal,
+        size: saved.size,
     }
 }

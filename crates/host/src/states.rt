@@ -3,17 +3,19 @@
 use crate::HostRecord;
 use crate::HostReport;
 use crate::HostState;
+use crate::HostTest;
 use bucket_test::Answer;
 use bucket_test::Drawn;
 use bucket_test::Report;
 use bucket_test::State;
 use bucket_test::Threshold;
 use plan::COUNT_LIMIT;
+use saved_test::Loaded;
 use walk::Mark;
 use walk::Walked;
 ghost use mathlib.Core.Path.{_≡_};
 ghost use mathlib.Core.List.{map};
-ghost use Rattle.host.specs.States.{markIn, markCase, markStep, answerCase, answerNumber, recordIn, recordOut, stateIn, drawnOut, reportOut};
+ghost use Rattle.host.specs.States.{markIn, markCase, markStep, answerCase, answerNumber, recordIn, recordOut, stateIn, drawnOut, loadedOut, reportOut};
 
 fn mark_in(mark: u32, step: u32) -> Mark
     ensures { λ r. ⌜ r ≡ markIn mark step ⌝ }
@@ -141,6 +143,20 @@ pub(crate) fn drawn_out(d: Drawn) -> HostState
     HostState {
         answer: answer_case(answer),
         number: answer_number(answer),
+        n: s.n,
+        ones: s.ones,
+        records,
+    }
+}
+
+pub(crate) fn loaded_out(l: Loaded) -> HostTest
+    ensures { λ r. ⌜ r ≡ loadedOut l ⌝ }
+{
+    let s = l.state;
+    let held = s.records;
+    let records = records_out(held);
+    HostTest {
+        refusal: l.refusal,
         n: s.n,
         ones: s.ones,
         records,

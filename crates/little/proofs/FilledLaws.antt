@@ -4,7 +4,7 @@ use mathlib.Core.List.{List, [], _∷_, _++_}
 use Prim.Native.Nat.{ℕ, zero, suc, _+_, _≤_, _<_}
 use native.Mathlib.Numerals.{add-one}
 use native.Mathlib.Omega.{arith}
-use lib.ListN.{length, replicate, set, getD, length-replicate, length-set}
+use lib.ListN.{length, take, replicate, set, getD, length-replicate, length-set}
 use Rattle.plan.specs.Places.{overTo}
 use Rattle.plan.proofs.PlaceLists.{over-length, over-get, over-cong, over-put}
 use Rattle.little.specs.Little.{filled}
@@ -60,3 +60,12 @@ filled-over zero f [] (y ∷ ys) rest e e′ = absurd (omega arith)
 filled-over (suc count) f [] front′ rest e e′ = absurd (omega arith)
 filled-over (suc count) f (x ∷ xs) [] rest e e′ = absurd (omega arith)
 filled-over (suc count) f (x ∷ xs) (y ∷ ys) rest e e′ = ap (λ (zs : List ℕ). f 0 ∷ zs) (filled-over count (λ i. f (suc i)) xs ys rest (omega arith) (omega arith))
+
+-- the filled places, whatever else stands in the table
+pub filled-take : (count : ℕ) (f : ℕ → ℕ) (xs ys : List ℕ) → count ≤ length xs → count ≤ length ys
+    → take count (filled count f xs) ≡ take count (filled count f ys)
+unfolding filled overTo
+filled-take zero f xs ys h k = refl
+filled-take (suc count) f [] ys h k = absurd (omega arith)
+filled-take (suc count) f (x ∷ xs) [] h k = absurd (omega arith)
+filled-take (suc count) f (x ∷ xs) (y ∷ ys) h k = ap (λ (zs : List ℕ). f 0 ∷ zs) (filled-take count (λ i. f (suc i)) xs ys (omega arith) (omega arith))

@@ -57,7 +57,7 @@ row-same w part part′ e = ap (λ (l : List ℕ). record { first = firstAbove (
         ∙ take-take (w .upper - firstAbove (w .lower)) (countsBetween (w .lower) (w .upper)) part h
 
 -- by its mark: the same judgement
-sound-by : (t : Threshold) (part part′ : List ℕ) (e n S : ℕ) (m : Mark) → take (liveBy m (t .walked)) part′ ≡ take (liveBy m (t .walked)) part
+pub sound-by : (t : Threshold) (part part′ : List ℕ) (e n S : ℕ) (m : Mark) → take (liveBy m (t .walked)) part′ ≡ take (liveBy m (t .walked)) part
     → recordSound e n S m t part′ ≡ recordSound e n S m t part
 unfolding isSound
 sound-by t part part′ e n S Open h = rw (row-same (t .walked) part part′ h)

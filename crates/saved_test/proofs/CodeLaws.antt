@@ -22,17 +22,18 @@ use Rattle.walk.specs.declared.Mark.{Mark}
 use Rattle.bucket_test.specs.declared.Threshold.{Threshold}
 use Rattle.little.specs.Little.{field, column}
 use Rattle.little.specs.Little.{filled}
-use Rattle.little.proofs.FilledLaws.{filled-length, filled-over}
+use Rattle.little.proofs.FilledLaws.{filled-length, filled-over, filled-take}
 use Rattle.plan.specs.declared.Plan.{Plan}
 use Rattle.bucket_test.specs.declared.State.{State}
 use Rattle.plan.specs.Plan.{spendingOf, planRefusal}
 use Rattle.plan.proofs.AcceptedLaws.{accepted}
-use Rattle.bucket_test.specs.Words.{wordsFit}
+use Rattle.bucket_test.specs.Words.{partAt, wordsFit}
 use Rattle.bucket_test.specs.Turn.{recordAt, recordSound, recordSoundAt}
 use Rattle.bucket_test.specs.Draw.{stateSound, noState}
 use Rattle.saved_test.specs.declared.Loaded.{Loaded}
 use Rattle.saved_test.specs.Form.{massSize, recordOffset, formSize, liveCount, massesTo}
 use Rattle.saved_test.specs.Reading.{markOf, markKnown, recordFrom, recordIn, recordFits, massOffset, partIn, massesIn, headerFits, formFits, stateIn, wordsIn, readRefusal, loaded, wordsAfter}
+use Rattle.saved_test.proofs.AlikeLaws.{sound-by}
 use Rattle.saved_test.proofs.HeldLaws.{record-held, part-held}
 use Rattle.saved_test.proofs.BytesBack.{few-by, masses-within, fitting}
 
@@ -208,9 +209,22 @@ module _ (p : Plan) (bytes : List ℕ) (s : State) (good : planRefusal p ≡ 0) 
   pub held-next : at + massSize * n ≡ massOffset bytes (p .count) (i + 1)
   held-next = rw (live-held, here) (offset-next bytes (p .count) i)
 
-  pub held-passes : (q : List ℕ) → q ≡ filled n (column massSize at massSize bytes) (replicate wide 0)
+  -- its masses at the front of any part
+  pub held-front : (q q₀ : List ℕ) → q ≡ filled n (column massSize at massSize bytes) q₀ → length q₀ ≡ wide
+      → take n q ≡ take n (partAt i (wordsIn p bytes))
+  held-front q q₀ e size =
+      let f = column massSize at massSize bytes in
+      let whole : filled n f (replicate wide 0) ≡ partAt i (wordsIn p bytes) =
+      part-made bytes (p .count) i n at _ live-held here refl ∙ sym (part-held p bytes i l) in
+      ap (take n) e
+      ∙ filled-take n f q₀ (replicate wide 0) (omega (arith, held-few, size)) (omega (arith, held-few, length-replicate {A = ℕ} wide 0))
+      ∙ ap (take n) whole
+
+  pub held-passes : (q q₀ : List ℕ) → q ≡ filled n (column massSize at massSize bytes) q₀ → length q₀ ≡ wide
       → recordSound (spendingOf p i (s .n)) (s .n) (s .ones) (recordAt s i .mark) (recordAt s i) q ≡ passes p bytes s i
-  held-passes q e = rw (part-made bytes (p .count) i n at q live-held here e ∙ sym (part-held p bytes i l))
+  held-passes q q₀ e size =
+      sound-by (recordAt s i) (partAt i (wordsIn p bytes)) q (spendingOf p i (s .n)) (s .n) (s .ones) (recordAt s i .mark)
+      (rw live at (held-front q q₀ e size))
 
 module _ (p : Plan) (s : State) (words : List ℕ) where
   pub sound-late : p .horizon < s .n → false ≡ stateSound p s words

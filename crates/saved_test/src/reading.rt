@@ -202,13 +202,21 @@ pub fn state_in(p: Plan, bytes: &[u8]) -> State
     }
 }
 
-// So many masses from an offset on, and zeros behind them.
+// So many masses from an offset on, at the front of a part; the words behind them stay.
+pub fn front_in(bytes: &[u8], at: usize, count: usize, part: &mut [u64])
+    requires { ⌜ (count ≤ length (now part)) × (at + massSize * count ≤ length (now bytes)) ⌝ }
+    ensures { λ _. ⌜ now (part .exit) ≡ filled count (column massSize at massSize (now (bytes .entry))) (now (part .entry)) ⌝ }
+{
+    long_fields_in(bytes, at, MASS_SIZE, MASS_SIZE, count, part);
+}
+
+// .. and zeros behind them.
 fn part_in(bytes: &[u8], at: usize, count: usize, part: &mut [u64])
     requires { ⌜ (length (now part) ≡ wide) × (count ≤ wide) × (at + massSize * count ≤ length (now bytes)) ⌝ }
     ensures { λ _. ⌜ now (part .exit) ≡ filled count (column massSize at massSize (now (bytes .entry))) (replicate wide 0) ⌝ }
 {
     clear_from(part, count);
-    long_fields_in(bytes, at, MASS_SIZE, MASS_SIZE, count, part);
+    front_in(bytes, at, count, part);
 }
 
 // The words that the bytes hold, where the form fits.
@@ -237,7 +245,7 @@ fn parts_sound(p: Plan, bytes: &[u8], s: State, part: &mut [u64]) -> bool
     let mut at = HEADER_SIZE + RECORD_SIZE * count;
     for i in 0..count {
         let n = live_count(s.records[i]);
-        part_in(bytes, at, n, part);
+        front_in(bytes, at, n, part);
         if !sound_at(p, s, i, &part[..]) {
             return false;
         }

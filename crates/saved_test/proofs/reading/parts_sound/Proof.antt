@@ -66,8 +66,8 @@ module _ (c : tie.After-live-count Inv-loop μ-loop) where
         held-next (s .args .p) (s .args .bytes .now) (s .args .t3) (s .pre .0) (s .pre .1) (s .pre .2) (l .i) h _ (l .at) (c .live-count .ensures .0) (l .inv .2),
       )
 
-part-in-requires : tie.Need-part-in-requires Inv-loop μ-loop
-part-in-requires c κs = (c .before .before .before .before .loop .inv .1, lent (c .before) .0, lent (c .before) .1)
+front-in-requires : tie.Need-front-in-requires Inv-loop μ-loop
+front-in-requires c κs = (omega (arith, c .before .before .before .before .loop .inv .1, lent (c .before) .0), lent (c .before) .1)
 
 sound-at-requires : tie.Need-sound-at-requires Inv-loop μ-loop
 sound-at-requires c κs =
@@ -87,7 +87,7 @@ judged c =
     let l = b .before .before .before .loop in
     c .sound-at .ensures
     ∙ held-passes (s .args .p) (s .args .bytes .now) (s .args .t3) (s .pre .0) (s .pre .1) (s .pre .2) (l .i) (b .before .before .loop-test .taken) _ (l .at)
-    (b .live-count .ensures .0) (l .inv .2) _ (c .before .before .before .before .part-in .ensures)
+    (b .live-count .ensures .0) (l .inv .2) _ _ (c .before .before .before .before .front-in .ensures) (l .inv .1)
 
 returns : tie.Need-returns Inv-loop μ-loop
 returns c =
@@ -132,7 +132,7 @@ parts-sound-spec =
     mul-live-count
     element-copy-out-live-count
     live-count-requires
-    part-in-requires
+    front-in-requires
     sound-at-requires
     same-length
     returns
