@@ -105,7 +105,7 @@ fn any_wide(p: Plan, s: State) -> bool
 }
 
 // The first answer that fits, where the plan is accepted.
-pub(crate) fn answer_of(p: Plan, s: State) -> Answer
+pub fn answer_of(p: Plan, s: State) -> Answer
     requires { ⌜ (p .count ≤ countLimit) × (p .buckets ≤ bucketLimit) ⌝ }
     ensures { λ r. ⌜ r ≡ answerOf p s ⌝ }
 {

@@ -64,7 +64,7 @@ pub fn begin(p: Plan, words: &mut [u64]) -> Drawn
     }
 }
 
-fn is_ending(a: Answer) -> bool
+pub fn is_ending(a: Answer) -> bool
     ensures { λ r. ⌜ r ≡ isEnding a ⌝ }
 {
     match a {

@@ -1,9 +1,9 @@
 // The bucket test: a beginning, draws, and the answer.
-mod answering;
+pub mod answering;
 pub mod drawing;
 pub mod judging;
 pub mod starting;
-mod turning;
+pub mod turning;
 
 use plan::COUNT_LIMIT;
 use walk::Mark;

@@ -1,0 +1,5 @@
+-- The chain of calls.
+mod PlanRead
+pub mod Chain
+-- What the code leaves to do.
+mod TurnLaws

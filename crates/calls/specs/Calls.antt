@@ -1,12 +1,16 @@
 -- The two calls from C, over bytes and numbers only (saved 6).
+use mathlib.Core.Path.{_≡_}
+use mathlib.Core.Bool.{true}
 use mathlib.Core.List.{List, [], _∷_, _++_}
 use Prim.Native.Nat.{ℕ, zero, suc, _+_, _*_}
 use lib.ListN.{length, drop, replicate}
 use Rattle.walk.specs.Numbers.{le?}
 use Rattle.walk.specs.Units.{wide}
 use Rattle.plan.specs.Places.{unless, firstRefusal}
+use Rattle.plan.specs.Plan.{planRefusal}
 use Rattle.plan.specs.declared.Plan.{Plan}
 use Rattle.bucket_test.specs.Draw.{Outcome, begun, drawRefusal, drawn}
+use Rattle.bucket_test.specs.declared.State.{State}
 use Rattle.bucket_test.specs.declared.Answer.{Answer}
 use Rattle.bucket_test.specs.declared.Answer.the-variants.{Open, Decided, Crossed, Wide, Spent, Refused}
 use Rattle.stored_plan.specs.Reading.{decoded}
@@ -35,6 +39,13 @@ roomRefusal p o lent = unless (le? (savedSize p (o .state)) (length lent)) 12
 abbrev pub calledBy : ℕ → Plan → Outcome → List ℕ → Called
 calledBy zero p o lent = record { number = answerNumber (o .answer); bytes = savedForm p (o .state) (o .words) ++ drop (savedSize p (o .state)) lent }
 calledBy (suc r) p o lent = record { number = suc r; bytes = lent }
+
+-- what has been judged of a draw to the test that saved bytes hold, before it is taken
+pub record Judged (p : Plan) (saved : List ℕ) (s : State) (d : ℕ) : Type 0 where
+  pub plan : planRefusal p ≡ 0
+  pub form : formFits p saved ≡ true
+  pub state : s ≡ stateIn p saved
+  pub draw : drawRefusal p s (wordsIn p saved) d ≡ 0
 
 module _ (planBytes : List ℕ) where
   abbrev pub planOf : Plan

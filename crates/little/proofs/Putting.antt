@@ -4,7 +4,7 @@ use mathlib.Core.List.{List, [], _++_, append-assoc}
 use Prim.Native.Nat.{ℕ, _+_, _≤_}
 use native.Mathlib.Omega.{arith}
 use lib.ListN.{length, take, drop, length-append, take-append-drop}
-use lib.Seq.{sets, sets-eq, take-at, drop-drop, drop-append-add, length-take-le}
+use lib.Seq.{sets, sets-eq, take-at, drop-at, drop-drop, drop-append-add, length-take-le}
 use Rattle.little.specs.Little.{putAt}
 
 module _ (at : ℕ) where
@@ -37,6 +37,11 @@ module _ (at : ℕ) where
   pub then : (xs ys bytes bytes′ bytes″ : List ℕ) (m : ℕ) → bytes′ ≡ putAt at xs bytes → bytes″ ≡ putAt m ys bytes′
       → at ≤ length bytes → m ≡ at + length xs → bytes″ ≡ putAt at (xs ++ ys) bytes
   then xs ys bytes bytes′ bytes″ m e f h g = f ∙ ap (putAt m ys) e ∙ put-put xs ys bytes m h g
+
+-- from the offset on
+pub put-drop : (at : ℕ) (xs bytes : List ℕ) → at ≤ length bytes → drop at (putAt at xs bytes) ≡ xs ++ drop (at + length xs) bytes
+unfolding putAt
+put-drop at xs bytes h = drop-at (take at bytes) (xs ++ drop (at + length xs) bytes) at (length-take-le at bytes h)
 
 pub put-first : (xs bytes : List ℕ) → putAt 0 xs bytes ≡ xs ++ drop (length xs) bytes
 unfolding putAt

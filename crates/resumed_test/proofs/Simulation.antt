@@ -46,7 +46,7 @@ SameParts p s words words′ = (i : ℕ) → i < p .count
 module _ (t : Threshold) (part part′ : List ℕ) where
   -- by its mark: the same record after its turn, and after it the same live masses
   module _ (a e n S : ℕ) where
-    turn-by : (m : Mark) → take (liveBy m (t .walked)) part′ ≡ take (liveBy m (t .walked)) part
+    pub turn-by : (m : Mark) → take (liveBy m (t .walked)) part′ ≡ take (liveBy m (t .walked)) part
         → turnRecord a e n S m t part′ ≡ turnRecord a e n S m t part
     turn-by Open h = rw (row-same (t .walked) part part′ h)
     turn-by (Above u) h = refl

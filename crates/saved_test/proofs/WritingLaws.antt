@@ -23,7 +23,7 @@ use Rattle.plan.proofs.PlaceLaws.{eq?-fails, first-some, first-one}
 use Rattle.bucket_test.proofs.PartLaws.{words-say}
 use Rattle.little.specs.Little.{toLE, putAt}
 use Rattle.little.proofs.LittleLaws.{to-length}
-use Rattle.little.proofs.Putting.{then, put-first}
+use Rattle.little.proofs.Putting.{then, put-first, put-drop}
 use Rattle.saved_test.specs.Form.{headerSize, recordSize, massSize, recordOffset, formSize, liveCount, massesTo, markCode, markStep, recordBytes, massBytes, savedMasses, savedSize, header, recordEntries, massEntries, savedForm}
 use Rattle.saved_test.specs.Writing.{saveRefusal, writeRefusal, savedBy, bytesBy, saved, bytesAfter}
 use Rattle.saved_test.specs.declared.Saved.{Saved}
@@ -31,7 +31,7 @@ use Rattle.walk.specs.Numbers.{le?}
 use Rattle.walk.proofs.Tests.{le?-complete, le?-fails}
 use Rattle.plan.proofs.AcceptedLaws.{accepted}
 use Rattle.saved_test.proofs.Judged.{save-says, known-at, masses-few}
-use Rattle.saved_test.proofs.Sizes.{masses-length, header-length, front-length, form-length}
+use Rattle.saved_test.proofs.Sizes.{masses-length, header-length, front-length, entries-length}
 use Rattle.saved_test.proofs.BytesBack.{masses-within}
 
 -- ---- a record, by its numbers
@@ -139,19 +139,28 @@ module _ (p : Plan) (s : State) (words bytes : List ℕ) where
     pub put-none : size ≤ length bytes → (b : List ℕ) → b ≡ savedForm p s words ++ drop (savedSize p s) bytes → Puts (record { refusal = 0; size = size }) b
     put-none h b e = rw (le?-complete (savedSize p s) (length bytes) (omega arith), is, e) (refl, refl)
 
-  -- the three parts put, one behind the other
-  pub form-put : (b₁ b₂ b₃ : List ℕ) → b₁ ≡ putAt 0 (header p s) bytes
-      → b₂ ≡ putAt headerSize (joinTo (p .count) (λ i. recordBytes (recordAt s i))) b₁
-      → b₃ ≡ putAt (headerSize + recordSize * p .count) (joinTo (p .count) (λ i. massBytes (liveCount (recordAt s i)) (partAt i words))) b₂
-      → b₃ ≡ savedForm p s words ++ drop (savedSize p s) bytes
-  unfolding savedForm recordEntries massEntries recordOffset
-  form-put b₁ b₂ b₃ e f g =
-      let two = then 0 (header p s) (recordEntries p s) bytes b₁ b₂ headerSize e f (omega arith) (omega (arith, header-length p s)) in
+  -- masses first, then header and records in front of them
+  pub form-put : (b₁ b₂ : List ℕ)
+      → b₁ ≡ putAt (headerSize + recordSize * p .count) (joinTo (p .count) (λ i. massBytes (liveCount (recordAt s i)) (partAt i words))) bytes
+      → b₂ ≡ putAt 0 (header p s ++ recordEntries p s) b₁
+      → headerSize + recordSize * p .count ≤ length bytes
+      → b₂ ≡ savedForm p s words ++ drop (savedSize p s) bytes
+  unfolding savedForm massEntries recordOffset formSize
+  form-put b₁ b₂ e f long =
       let front = header p s ++ recordEntries p s in
-      let whole : b₃ ≡ putAt 0 (front ++ massEntries p s words) bytes =
-      then 0 front (massEntries p s words) bytes b₂ b₃ (headerSize + recordSize * p .count) two g (omega arith) (omega (arith, front-length p s)) in
-      let tail = ap (λ (n : ℕ). savedForm p s words ++ drop n bytes) (form-length p s words) in
-      whole ∙ rw (append-assoc (header p s) (recordEntries p s) (massEntries p s words)) (put-first (savedForm p s words) bytes ∙ tail)
+      let at = headerSize + recordSize * p .count in
+      let rear = massEntries p s words in
+      let size : at + length rear ≡ savedSize p s = omega (arith, entries-length p s words) in
+      let behind : drop (length front) b₁ ≡ rear ++ drop (savedSize p s) bytes =
+      ap (λ (n : ℕ). drop n b₁) (front-length p s) ∙ ap (drop at) e ∙ put-drop at rear bytes long ∙ ap (λ (n : ℕ). rear ++ drop n bytes) size in
+      f ∙ put-first front b₁ ∙ ap (λ (r : List ℕ). front ++ r) behind ∙ sym (append-assoc front rear (drop (savedSize p s) bytes))
+      ∙ ap (λ (r : List ℕ). r ++ drop (savedSize p s) bytes) (append-assoc (header p s) (recordEntries p s) rear)
+
+-- header, then records
+pub front-put : (p : Plan) (s : State) (bytes b₁ b₂ : List ℕ) → b₁ ≡ putAt 0 (header p s) bytes
+    → b₂ ≡ putAt headerSize (joinTo (p .count) (λ i. recordBytes (recordAt s i))) b₁ → b₂ ≡ putAt 0 (header p s ++ recordEntries p s) bytes
+unfolding recordEntries
+front-put p s bytes b₁ b₂ e f = then 0 (header p s) (recordEntries p s) bytes b₁ b₂ headerSize e f (omega arith) (omega (arith, header-length p s))
 
 pub size-is : (p : Plan) (s : State) (masses : ℕ) → masses ≡ savedMasses p s → headerSize + recordSize * p .count + massSize * masses ≡ savedSize p s
 unfolding formSize recordOffset

@@ -1,6 +1,6 @@
 // A test saved through a power cut (saved 1 to 4): its form, written and read.
 pub mod form;
-mod marks;
+pub mod marks;
 pub mod reading;
 mod signed;
 pub mod writing;

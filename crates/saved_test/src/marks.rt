@@ -63,7 +63,7 @@ pub(crate) fn mark_known(code: u32, step: u32) -> bool
 }
 
 // The masses that are saved of a threshold.
-pub(crate) fn live_count(t: Threshold) -> usize
+pub fn live_count(t: Threshold) -> usize
     ensures { λ r. ⌜ (r ≡ liveCount t) × (r < 2 ^ 33) ⌝ }
 {
     let m = t.mark;

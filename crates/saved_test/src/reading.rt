@@ -254,9 +254,9 @@ fn parts_sound(p: Plan, bytes: &[u8], s: State, part: &mut [u64]) -> bool
     true
 }
 
-// Refusal 11 of the state that the bytes hold, where the form fits, before a word is lent.
-fn state_sound_in(p: Plan, bytes: &[u8], s: State) -> bool
-    requires { ⌜ (planRefusal p ≡ 0) × (formFits p (now bytes) ≡ true) × (s ≡ stateIn p (now bytes)) ⌝ }
+// Refusal 11 of the state that the bytes hold, where the form fits.
+pub fn state_sound_in(p: Plan, bytes: &[u8], s: State, part: &mut [u64]) -> bool
+    requires { ⌜ (planRefusal p ≡ 0) × (formFits p (now bytes) ≡ true) × (s ≡ stateIn p (now bytes)) × (length (now part) ≡ wide) ⌝ }
     ensures { λ r. ⌜ r ≡ stateSound p s (wordsIn p (now (bytes .entry))) ⌝ }
 {
     if s.n > p.horizon {
@@ -265,8 +265,16 @@ fn state_sound_in(p: Plan, bytes: &[u8], s: State) -> bool
     if s.ones > s.n {
         return false;
     }
+    parts_sound(p, bytes, s, part)
+}
+
+// .. before a lent word changes, with words of its own.
+fn may_read(p: Plan, bytes: &[u8], s: State) -> bool
+    requires { ⌜ (planRefusal p ≡ 0) × (formFits p (now bytes) ≡ true) × (s ≡ stateIn p (now bytes)) ⌝ }
+    ensures { λ r. ⌜ r ≡ stateSound p s (wordsIn p (now (bytes .entry))) ⌝ }
+{
     let mut part = [0u64; WIDE];
-    parts_sound(p, bytes, s, &mut part)
+    state_sound_in(p, bytes, s, &mut part)
 }
 
 // The first refusal of a reading into so many words before the test is judged: plan, 8, 15.
@@ -309,7 +317,7 @@ pub fn read_test(p: Plan, bytes: &[u8], words: &mut [u64]) -> Loaded
         return refused(bad);
     }
     let state = state_in(p, bytes);
-    if !state_sound_in(p, bytes, state) {
+    if !may_read(p, bytes, state) {
         return refused(11);
     }
     parts_in(bytes, p.count as usize, words);

@@ -1,5 +1,6 @@
 // Writing a test into lent bytes (saved 2).
 ghost use mathlib.Core.Path.{_≡_};
+ghost use mathlib.Core.List.{_++_};
 ghost use Prim.Native.Nat.{ℕ, _+_, _*_, _^_, _≤_, _<_};
 ghost use lib.ListN.{length, getD};
 ghost use Rattle.walk.specs.Units.{wide};
@@ -9,7 +10,7 @@ ghost use Rattle.plan.specs.Plan.{countLimit};
 ghost use Rattle.bucket_test.specs.Words.{partAt};
 ghost use Rattle.bucket_test.specs.Turn.{noRecord, recordAt};
 ghost use Rattle.little.specs.Little.{putAt};
-ghost use Rattle.saved_test.specs.Form.{headerSize, recordSize, massSize, liveCount, massesTo, recordBytes, massBytes, savedMasses, savedSize, header};
+ghost use Rattle.saved_test.specs.Form.{headerSize, recordSize, massSize, liveCount, massesTo, recordBytes, massBytes, recordOffset, savedMasses, savedSize, header, recordEntries};
 ghost use Rattle.saved_test.specs.Writing.{saveRefusal, savedBy, bytesBy, saved, bytesAfter};
 use crate::Saved;
 use crate::form::COUNT_FIELD;
@@ -65,7 +66,7 @@ fn write_records(bytes: &mut [u8], count: usize, records: [Threshold; COUNT_LIMI
 }
 
 // The masses of so many thresholds together.
-fn masses_of(records: [Threshold; COUNT_LIMIT], count: usize) -> usize
+pub fn masses_of(records: [Threshold; COUNT_LIMIT], count: usize) -> usize
     requires { ⌜ count ≤ countLimit ⌝ }
     ensures { λ r. ⌜ (r ≡ massesTo (λ i. getD records i noRecord) count) × (r ≤ 2 ^ 33 * count) ⌝ }
 {
@@ -78,7 +79,7 @@ fn masses_of(records: [Threshold; COUNT_LIMIT], count: usize) -> usize
 }
 
 // The first masses of a part.
-fn write_part(bytes: &mut [u8], at: usize, count: usize, part: &[u64])
+pub fn write_part(bytes: &mut [u8], at: usize, count: usize, part: &[u64])
     requires { ⌜ (count ≤ length (now part)) × (at + massSize * count ≤ length (now bytes)) ⌝ }
     ensures { λ _. ⌜ now (bytes .exit) ≡ putAt at (massBytes count (now (part .entry))) (now (bytes .entry)) ⌝ }
 {
@@ -126,8 +127,20 @@ fn write_header(bytes: &mut [u8], p: Plan, s: State, masses: usize)
     write_le(bytes, MASS_SIZE_FIELD, 2, MASS_SIZE as u64);
 }
 
+// Header and records of a test, in front of its masses.
+pub fn write_front(bytes: &mut [u8], p: Plan, s: State)
+    requires { ⌜ (p .count ≤ countLimit) × ((i : ℕ) → i < p .count → liveCount (recordAt s i) ≤ wide) × (recordOffset (p .count) ≤ length (now bytes)) ⌝ }
+    ensures { λ _. ⌜ now (bytes .exit) ≡ putAt 0 (header p s ++ recordEntries p s) (now (bytes .entry)) ⌝ }
+{
+    let count = p.count as usize;
+    let records = s.records;
+    let masses = masses_of(records, count);
+    write_header(bytes, p, s, masses);
+    write_records(bytes, count, records);
+}
+
 // The form of a test, which has been judged, into any lent bytes, or refusal 12.
-pub fn put_form(p: Plan, s: State, words: &[u64], bytes: &mut [u8]) -> Saved
+fn put_form(p: Plan, s: State, words: &[u64], bytes: &mut [u8]) -> Saved
     requires { ⌜ (p .count ≤ countLimit) × (length (now words) ≡ wide * p .count) × ((i : ℕ) → i < p .count → liveCount (recordAt s i) ≤ wide) ⌝ }
     ensures { λ r. ⌜
         (r ≡ savedBy p s (now (words .entry)) (unless (le? (savedSize p s) (length (now (bytes .entry)))) 12))
@@ -136,17 +149,15 @@ pub fn put_form(p: Plan, s: State, words: &[u64], bytes: &mut [u8]) -> Saved
 {
     let count = p.count as usize;
     let records = s.records;
-    let masses = masses_of(records, count);
-    let size = HEADER_SIZE + RECORD_SIZE * count + MASS_SIZE * masses;
+    let size = HEADER_SIZE + RECORD_SIZE * count + MASS_SIZE * masses_of(records, count);
     if bytes.len() < size {
         return Saved {
             refusal: 12,
             size: 0,
         };
     }
-    write_header(bytes, p, s, masses);
-    write_records(bytes, count, records);
     write_masses(bytes, count, records, words);
+    write_front(bytes, p, s);
     Saved { refusal: 0, size }
 }
 

@@ -39,15 +39,15 @@ module _ (c : tie.Else1) where
 state-in-requires : tie.Need-state-in-requires
 state-in-requires c κs = (few c, form-long _ _ (fit c .1 .1))
 
-state-sound-in-requires : tie.Need-state-sound-in-requires
-state-sound-in-requires c κs = (fit (c .before) .0, fit (c .before) .1 .1, c .state-in .ensures)
+may-read-requires : tie.Need-may-read-requires
+may-read-requires c κs = (fit (c .before) .0, fit (c .before) .1 .1, c .state-in .ensures)
 
-judged : (c : tie.After-state-sound-in)
+judged : (c : tie.After-may-read)
     → let a = start (c .before .before) .args in
-    c .state-sound-in .result ≡ stateSound (a .p) (stateIn (a .p) (a .bytes .now)) (wordsIn (a .p) (a .bytes .now))
+    c .may-read .result ≡ stateSound (a .p) (stateIn (a .p) (a .bytes .now)) (wordsIn (a .p) (a .bytes .now))
 judged c =
     let a = start (c .before .before) .args in
-    c .state-sound-in .ensures ∙ ap (λ (s : State). stateSound (a .p) s (wordsIn (a .p) (a .bytes .now))) (c .before .state-in .ensures)
+    c .may-read .ensures ∙ ap (λ (s : State). stateSound (a .p) s (wordsIn (a .p) (a .bytes .now))) (c .before .state-in .ensures)
 
 refused-requires-2 : tie.Need-refused-requires-2
 refused-requires-2 c κs = search needs
@@ -83,7 +83,7 @@ read-test-spec =
     refused-requires
     returns
     state-in-requires
-    state-sound-in-requires
+    may-read-requires
     refused-requires-2
     returns-2
     cast-parts-in

@@ -1,7 +1,6 @@
 -- n and S first, then the parts.
-use mathlib.Core.Path.{refl}
 use native.Mathlib.Omega.{arith}
-use Rattle.walk.specs.Units.{wide, horizonLimit}
+use Rattle.walk.specs.Units.{horizonLimit}
 use Rattle.plan.proofs.AcceptedLaws.{accepted}
 use Rattle.saved_test.specs.Reading.{wordsIn}
 use Rattle.saved_test.proofs.CodeLaws.{sound-late, sound-ones, sound-parts}
@@ -15,20 +14,19 @@ returns c = sound-late _ _ _ (c .if1 .taken)
 returns-2 : tie.Need-returns-2
 returns-2 c = sound-ones _ _ _ (c .before .before .if1 .left) (c .if2 .taken)
 
-slice-aggregate-parts-sound : tie.Need-slice-aggregate-parts-sound
-slice-aggregate-parts-sound c = search needs
-
 parts-sound-requires : tie.Need-parts-sound-requires
-unfolding wide
 parts-sound-requires c κs =
-    let s = c .before .before .before .before .before .before .before in
+    let s = c .before .before .before .before .before .before .before .before in
     let late = accepted (s .args .p) .0 (s .pre .0) .horizon-range .1 in
-    (s .pre .0, s .pre .1, s .pre .2, omega (arith, late, c .before .before .before .if1 .left), refl)
+    (s .pre .0, s .pre .1, s .pre .2, omega (arith, late, c .before .before .before .if1 .left), s .pre .3)
+
+same-length : tie.Need-same-length
+same-length c = search needs
 
 returns-3 : tie.Need-returns-3
 returns-3 c =
-    let b = c .before .before .before in
-    sound-parts _ _ _ (b .before .before .if1 .left) (b .if2 .left) _ (c .before .parts-sound .ensures)
+    let b = c .before .before .before .before in
+    sound-parts _ _ _ (b .before .before .if1 .left) (b .if2 .left) _ (c .before .before .parts-sound .ensures)
 
 pub state-sound-in-spec : {M : Type 1} → statement M
-state-sound-in-spec = tie.close (tie.spec returns returns-2 slice-aggregate-parts-sound parts-sound-requires returns-3)
+state-sound-in-spec = tie.close (tie.spec returns returns-2 parts-sound-requires same-length returns-3)

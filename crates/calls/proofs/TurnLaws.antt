@@ -1,0 +1,193 @@
+-- The turns of thresholds whose masses are read from saved bytes, one at a time, into the front of a part.
+use mathlib.Core.Path.{_≡_, refl, sym, ap, _∙_}
+use mathlib.Core.Bool.{Bool, true, false, not}
+use mathlib.Core.List.{List, [], _∷_}
+use Prim.Native.Nat.{ℕ, zero, suc, _+_, _*_, _-_, _≤_, _<_}
+use native.Mathlib.Omega.{arith}
+use lib.IntN.{ℤ}
+use lib.ListN.{length, take}
+use Rattle.walk.specs.Numbers.{le?}
+use Rattle.walk.specs.Units.{million, wide, horizonLimit}
+use Rattle.walk.specs.Spending.{IsSpending}
+use Rattle.walk.specs.Walk.{below}
+use Rattle.walk.specs.Row.{Row, upper, stepRow}
+use Rattle.walk.specs.Record.{firstAbove, rowOf, recordOf, padded, isWide}
+use Rattle.walk.specs.Soundness.{isSound, Steppable}
+use Rattle.walk.specs.declared.Mark.{Mark}
+use Rattle.walk.specs.declared.Mark.the-variants.{Open, Above, AtMost}
+use Rattle.walk.specs.declared.Walked.{Walked}
+use Rattle.walk.proofs.Tests.{le?-sound}
+use Rattle.walk.proofs.Boundaries.{above-below}
+use Rattle.walk.proofs.SoundnessLaws.{checked, narrow}
+use Rattle.walk.proofs.WalkFacts.{step-facts}
+use Rattle.plan.specs.Places.{unless, firstRefusal}
+use Rattle.plan.specs.Plan.{thresholdAt, spendingOf, planRefusal, Accepted}
+use Rattle.plan.specs.declared.Plan.{Plan}
+use Rattle.plan.proofs.AcceptedLaws.{accepted, threshold-ok, spends}
+use Rattle.bucket_test.specs.Words.{partAt, wordsFit}
+use Rattle.bucket_test.specs.Turn.{recordAt, wideOpen, walkedOn, recordSound, turnRecord, turnPart, MayTurn}
+use Rattle.bucket_test.specs.Answers.{answerOf, isEnding}
+use Rattle.bucket_test.specs.Draw.{stateSound, drawRefusalOver, drawRefusal, nextState, nextWords}
+use Rattle.bucket_test.specs.declared.Threshold.{Threshold}
+use Rattle.bucket_test.specs.declared.State.{State}
+use Rattle.bucket_test.proofs.TurningLaws.{part-length}
+use Rattle.bucket_test.proofs.AnsweringLaws.{not-over, thin-at}
+use Rattle.bucket_test.proofs.DrawingLaws.{ones-fit, sound-at, early, all-may-turn}
+use Rattle.bucket_test.proofs.OneStep.{drawn-says, record-next, part-next}
+use Rattle.saved_test.specs.Form.{countsBetween, liveBy, liveCount}
+use Rattle.saved_test.specs.Reading.{wordsIn}
+use Rattle.saved_test.proofs.Judged.{gap-below}
+use Rattle.saved_test.proofs.AlikeLaws.{row-same}
+use Rattle.resumed_test.proofs.Simulation.{turn-by}
+use Rattle.calls.specs.Calls.{Judged}
+
+-- ---- one threshold, with its masses at the front of the part q, and in the part `part`
+
+module _ (t : Threshold) (part q : List ℕ) where
+  may-by : (a e : ℕ) (m : Mark) → take (liveBy m (t .walked)) q ≡ take (liveBy m (t .walked)) part → length q ≡ wide
+      → MayTurn a e m t part → MayTurn a e m t q
+  may-by a e Open same size h =
+      let row = row-same (t .walked) part q same in
+      record {
+        threshold = h .threshold;
+        half = h .half;
+        size = size;
+        signed = h .signed;
+        narrow = h .narrow;
+        early = h .early;
+        small = rw row (h .small);
+        sound = rw row (h .sound);
+      }
+  may-by a e (Above u) same size h = tt
+  may-by a e (AtMost u) same size h = tt
+
+-- the live masses of a record are those of its row
+live-masses : (f : ℕ) (w : Walked) → w .lower ≡ below f → (q q′ : List ℕ) → rowOf w q ≡ rowOf w q′ → (m : Mark) → take (liveBy m w) q ≡ take (liveBy m w) q′
+unfolding rowOf
+live-masses f w e q q′ same Open =
+    let count : countsBetween (w .lower) (w .upper) ≡ w .upper - firstAbove (w .lower) =
+    ap (λ (z : ℤ). countsBetween z (w .upper)) e ∙ gap-below f (w .upper) ∙ ap (λ (n : ℕ). w .upper - n) (sym (ap firstAbove e ∙ above-below f)) in
+    rw count (ap (λ (r : Row). r .masses) same)
+live-masses f w e q q′ same (Above u) = refl
+live-masses f w e q q′ same (AtMost u) = refl
+
+module _ (a e n S : ℕ) (t : Threshold) (part q q′ : List ℕ) where
+  -- what a turn leaves at the front of q, as q′, is what it leaves of `part`
+  front-by : (m : Mark) → t .mark ≡ m → take (liveBy m (t .walked)) q ≡ take (liveBy m (t .walked)) part
+      → let r = turnRecord a e n S m t part in
+      rowOf (r .walked) q′ ≡ rowOf (r .walked) (turnPart a e n S m t q) → take (liveCount r) q′ ≡ take (liveCount r) (turnPart a e n S m t part)
+  unfolding walkedOn recordOf
+  front-by Open is same row =
+      let r = stepRow a e (rowOf (t .walked) part) in
+      live-masses (r .first) (recordOf r) refl q′ (padded (r .masses))
+      (row ∙ ap (λ (x : Row). rowOf (recordOf r) (padded (stepRow a e x .masses))) (row-same (t .walked) part q same)) (walkedOn a e n S r .mark)
+  front-by (Above u) is same row = rw is
+  front-by (AtMost u) is same row = rw is
+
+-- a step leaves at most 769 masses, and at most one more than before
+module _ (E : ℕ → ℕ) (n S : ℕ) (a : ℕ) (threshold : a ≤ million) (spends : IsSpending E) (n′ S′ : ℕ) where
+  row-grows : (w : Walked) (part : List ℕ) → length part ≡ wide → isSound (E n) n S w part ≡ true → isWide w ≡ false
+      → let r = stepRow a (E (suc n)) (rowOf w part) in
+      (upper r - r .first ≤ wide) × (upper r - r .first ≤ countsBetween (w .lower) (w .upper) + 1)
+  unfolding rowOf
+  row-grows w part size sound thin =
+      let c = checked E n S w part size sound in
+      let moves = step-facts a threshold E spends n (rowOf w part) (c .sound) .0 .moves in
+      let before : countsBetween (w .lower) (w .upper) ≡ w .upper - firstAbove (w .lower) =
+      ap (λ (z : ℤ). countsBetween z (w .upper)) (c .signed) ∙ gap-below (firstAbove (w .lower)) (w .upper) in
+      let thin′ = narrow E n S w part size sound thin in (
+        omega (arith, moves .upper-slow, moves .lower-rises, c .upper-is, thin′),
+        omega (arith, moves .upper-slow, moves .lower-rises, c .upper-is, before),
+      )
+
+  live-le : (m : Mark) (r : Row) → liveBy m (recordOf r) ≤ upper r - r .first
+  unfolding recordOf
+  live-le Open r = omega (arith, gap-below (r .first) (upper r))
+  live-le (Above u) r = omega arith
+  live-le (AtMost u) r = omega arith
+
+  grows-by : (t : Threshold) (part : List ℕ) → length part ≡ wide → (m : Mark) → t .mark ≡ m → recordSound (E n) n S m t part ≡ true
+      → wideOpen t ≡ false
+      → let r = turnRecord a (E (suc n)) n′ S′ m t part in (liveCount r ≤ wide) × (liveCount r ≤ liveCount t + 1)
+  unfolding walkedOn
+  grows-by t part size Open is sound thin =
+      let r = stepRow a (E (suc n)) (rowOf (t .walked) part) in
+      let k = row-grows (t .walked) part size sound (rw is at thin) in
+      let h = live-le (walkedOn a (E (suc n)) n′ S′ r .mark) r in
+      rw is (omega (arith, h, k .0), omega (arith, h, k .1))
+  grows-by t part size (Above u) is sound thin = rw is (omega arith, omega arith)
+  grows-by t part size (AtMost u) is sound thin = rw is (omega arith, omega arith)
+
+-- ---- a draw that has been judged
+
+module _ (p : Plan) (bytes : List ℕ) (s : State) (d : ℕ) (j : Judged p bytes s d) where
+  abbrev ws : List ℕ
+  ws = wordsIn p bytes
+
+  abbrev next : State
+  next = nextState p s ws d
+
+  says : (planRefusal p ≡ 0) × (length ws ≡ wide * p .count) × (isEnding (answerOf p s) ≡ false) × (stateSound p s ws ≡ true)
+  says = drawn-says p s ws d (j .draw)
+
+  ok : Accepted p
+  ok = accepted p .0 (j .plan)
+
+  pub bit : d ≤ 1
+  unfolding drawRefusalOver
+  bit = le?-sound d 1 (go (planRefusal p) (wordsFit p ws) (le? d 1) _ (j .draw))
+    where
+      go : (r : ℕ) (w b : Bool) (rs : List ℕ) → firstRefusal (r ∷ unless w 8 ∷ unless b 9 ∷ rs) ≡ 0 → b ≡ true
+      go zero true true rs e = refl
+      go zero true false rs e = absurd (omega arith)
+      go zero false b rs e = absurd (omega arith)
+      go (suc r) w b rs e = absurd (omega arith)
+
+  pub few : p .count ≤ 10
+  few = ok .count-range .1
+
+  pub in-time : s .n < horizonLimit
+  in-time = early p s ws (j .plan) (says .1) (says .2) (says .3)
+
+  pub ones-few : s .ones ≤ s .n
+  ones-few = ones-fit p s ws (j .plan) (says .1) (says .2) (says .3)
+
+  module _ (i : ℕ) (l : i < p .count) where
+    abbrev t : Threshold
+    t = recordAt s i
+
+    abbrev a : ℕ
+    a = thresholdAt p i
+
+    abbrev e : ℕ
+    e = spendingOf p i (suc (s .n))
+
+    record-is : recordAt next i ≡ turnRecord a e (suc (s .n)) (s .ones + d) (t .mark) t (partAt i ws)
+    record-is = record-next p s ws d (says .0) (says .1) (says .2) (says .3) i l
+
+    part-is : partAt i (nextWords p s ws d) ≡ turnPart a e (suc (s .n)) (s .ones + d) (t .mark) t (partAt i ws)
+    part-is = part-next p s ws d (says .0) (says .1) (says .2) (says .3) i l
+
+    -- with the masses of the threshold at the front of q
+    module _ (q : List ℕ) (same : take (liveCount t) q ≡ take (liveCount t) (partAt i ws)) where
+      pub may-turn : length q ≡ wide → MayTurn a e (t .mark) t q
+      may-turn size = may-by t (partAt i ws) q a e (t .mark) same size (all-may-turn p s ws (j .plan) (says .1) (says .2) (says .3) i l)
+
+      pub turned : turnRecord a e (suc (s .n)) (s .ones + d) (t .mark) t q ≡ recordAt next i
+      turned = turn-by t (partAt i ws) q a e (suc (s .n)) (s .ones + d) (t .mark) same ∙ sym record-is
+
+      pub front : (r : Threshold) → r ≡ turnRecord a e (suc (s .n)) (s .ones + d) (t .mark) t q → (q′ : List ℕ)
+          → rowOf (r .walked) q′ ≡ rowOf (r .walked) (turnPart a e (suc (s .n)) (s .ones + d) (t .mark) t q)
+          → take (liveCount r) q′ ≡ take (liveCount r) (partAt i (nextWords p s ws d))
+      front r is q′ row =
+          let r-is : r ≡ turnRecord a e (suc (s .n)) (s .ones + d) (t .mark) t (partAt i ws) = is ∙ turned ∙ record-is in
+          let k = front-by a e (suc (s .n)) (s .ones + d) t (partAt i ws) q q′ (t .mark) refl same (rw r-is at row) in
+          rw (r-is, part-is) k
+
+    -- at most 769 masses, and at most one more than before
+    pub grows : (liveCount (recordAt next i) ≤ wide) × (liveCount (recordAt next i) ≤ liveCount t + 1)
+    grows =
+        rw record-is
+        (grows-by (spendingOf p i) (s .n) (s .ones) a (threshold-ok p ok i l) (spends p ok i l) (suc (s .n)) (s .ones + d) t (partAt i ws)
+        (part-length ws (p .count) i (says .1) l) (t .mark) refl (sound-at p s ws (j .plan) (says .1) (says .2) (says .3) i l)
+        (thin-at p s (not-over p s (says .2) .0) i l))
