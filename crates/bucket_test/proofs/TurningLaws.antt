@@ -10,8 +10,10 @@ use lib.Seq.{length-take-le, take-at, drop-at, drop-drop}
 use Rattle.walk.specs.Units.{wide}
 use Rattle.walk.specs.Walk.{Walk}
 use Rattle.walk.specs.Row.{Row}
-use Rattle.walk.specs.Record.{recordOf, padded}
+use Rattle.walk.specs.Record.{rowOf, recordOf, padded}
 use Rattle.walk.specs.Facts.{Same}
+use Rattle.walk.specs.declared.Walked.{Walked}
+use Rattle.walk.proofs.SoundnessLaws.{row-back}
 use Rattle.walk.proofs.RecordLaws.{padded-word, record-same, word-same, fits-same}
 use Rattle.plan.specs.Places.{overTo, joinTo}
 use Rattle.bucket_test.specs.Words.{partAt, Stands}
@@ -85,6 +87,11 @@ module _ (a n ones : ℕ) {e e′ : ℕ} {t t′ : Threshold} {part part′ : Li
 
   pub same-part : {l : List ℕ} → l ≡ turnPart a e n ones (t .mark) t part → l ≡ turnPart a e′ n ones (t′ .mark) t′ part′
   same-part h = h ∙ rw (p, q, r)
+
+-- ---- a record w of the row r, and words with the row's masses in front
+
+pub front-same : (w : Walked) (r : Row) (words : List ℕ) → w ≡ recordOf r → rowOf w words ≡ r → rowOf w words ≡ rowOf w (padded (r .masses))
+front-same w r words is same = same ∙ sym (row-back r) ∙ ap (λ (x : Walked). rowOf x (padded (r .masses))) (sym is)
 
 -- ---- a row that is the walk w: its record and its padded masses stand at w
 

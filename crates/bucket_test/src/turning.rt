@@ -7,11 +7,13 @@ use walk::Mark;
 use walk::WIDE;
 use walk::Walked;
 use walk::spending::spending_at;
+use walk::step::advance;
 use walk::step::step;
 ghost use mathlib.Core.Path.{_≡_};
 ghost use Prim.Native.Nat.{ℕ, _*_, _≤_, _<_};
 ghost use lib.ListN.{length, getD};
 ghost use Rattle.walk.specs.Units.{wide, horizonLimit};
+ghost use Rattle.walk.specs.Record.{rowOf};
 ghost use Rattle.plan.specs.Places.{overTo, joinTo};
 ghost use Rattle.plan.specs.Plan.{planRefusal};
 ghost use Rattle.bucket_test.specs.Turn.{noRecord, marked, turnRecord, turnPart, MayTurn, recordTurn, partTurn, MayTurnAt};
@@ -30,6 +32,17 @@ fn mark_of(w: Walked, n: u32, ones: u32) -> Mark
     Mark::Open
 }
 
+// The record of a threshold whose walk stands there after step n.
+fn walked_on(w: Walked, n: u32, ones: u32) -> Threshold
+    ensures { λ r. ⌜ r ≡ record { mark = marked n ones w; walked = w } ⌝ }
+{
+    let mark = mark_of(w, n, ones);
+    Threshold {
+        mark: mark,
+        walked: w,
+    }
+}
+
 // The turn of one threshold a at draw n, with e = E(n): an open one walks one step, a settled one and its part stay.
 fn turn(t: Threshold, part: &mut [u64], a: u32, e: u64, n: u32, ones: u32) -> Threshold
     requires { ⌜ MayTurn a e (t .mark) t (now part) ⌝ }
@@ -43,11 +56,27 @@ fn turn(t: Threshold, part: &mut [u64], a: u32, e: u64, n: u32, ones: u32) -> Th
         Mark::Open => {
             let before = t.walked;
             let walked = step(part, before, a, e);
-            let now = mark_of(walked, n, ones);
-            Threshold {
-                mark: now,
-                walked: walked,
-            }
+            walked_on(walked, n, ones)
+        }
+        Mark::Above(_) => t,
+        Mark::AtMost(_) => t,
+    }
+}
+
+// The same, but behind an open one's new live masses its part is left as it comes.
+pub fn turn_front(t: Threshold, part: &mut [u64], a: u32, e: u64, n: u32, ones: u32) -> Threshold
+    requires { ⌜ MayTurn a e (t .mark) t (now part) ⌝ }
+    ensures { λ r. ⌜
+        (r ≡ turnRecord a e n ones (t .mark) t (now (part .entry)))
+        × (rowOf (r .walked) (now (part .exit)) ≡ rowOf (r .walked) (turnPart a e n ones (t .mark) t (now (part .entry))))
+        ⌝ }
+{
+    let mark = t.mark;
+    match mark {
+        Mark::Open => {
+            let before = t.walked;
+            let next = advance(part, before, a, e);
+            walked_on(next, n, ones)
         }
         Mark::Above(_) => t,
         Mark::AtMost(_) => t,

@@ -1,10 +1,10 @@
--- A threshold's part of 769 words, as `trim` and `step` leave it.
+-- A threshold's part of 769 words, as `trim`, `advance` and `step` leave it.
 use mathlib.Core.Path.{_≡_, sym, ap, _∙_}
 use mathlib.Core.List.{List, _++_}
 use Prim.Native.Nat.{ℕ, suc, _+_, _-_, _≤_, _<_}
 use native.Mathlib.Omega.{arith}
 use lib.IntN.{ℤ}
-use lib.ListN.{length, take, drop, replicate, length-append, length-drop, take-append-drop}
+use lib.ListN.{length, take, drop, replicate, length-drop, take-append-drop}
 use lib.Seq.{length-take-le, take-at, take-append-le, drop-append-le}
 use mir.Syntax.{w32}
 use mir.Val.{toZ, ofZ}
@@ -20,8 +20,10 @@ use Rattle.walk.specs.declared.Walked.{Walked}
 use Rattle.walk.specs.declared.row.Cut.{Cut}
 use Rattle.walk.proofs.Cells.{cells-length}
 use Rattle.walk.proofs.Cuts.{keeps, drops, cut-order}
-use Rattle.walk.proofs.RowSteps.{keep, cells-full, apart, step-upper}
+use Rattle.walk.proofs.RowSteps.{keep, cells-full, apart, step-length, step-upper, step-sound, step-moves}
+use Rattle.walk.proofs.Boundaries.{above-below}
 use Rattle.walk.proofs.Signed.{back, below-fits}
+use Rattle.walk.proofs.SoundnessLaws.{row-front}
 
 -- ---- trim
 
@@ -32,35 +34,43 @@ places e over under cs ho hu h k d p q =
     let ks = keeps e over ho cs in
     rw (p, q) (cut-order e over under cs (kept e over cs) (dropped e under cs) h ks (drops e under hu cs), ks .within)
 
--- k words from lo on, all among the first m, go to the front, and zeros follow
-pub trimmed : (l l1 l2 : List ℕ) (m lo k : ℕ) → length l ≡ wide → m ≤ wide → lo + k ≤ m
-    → l1 ≡ take k (drop lo l) ++ drop k l → l2 ≡ take k l1 ++ replicate (length l1 - k) 0
-    → l2 ≡ padded (take k (drop lo (take m l)))
-unfolding padded
-trimmed l l1 l2 m lo k size top h p q =
-    let n1 : length (take m l) ≡ m = length-take-le m l (omega arith) in
-    let n2 : length (take k (drop lo l)) ≡ k = length-take-le k (drop lo l) (omega (arith, length-drop lo l)) in
-    let n3 : length l1 ≡ wide = ap length p ∙ length-append (take k (drop lo l)) (drop k l) ∙ omega (arith, length-drop k l) in
-    let front : take k l1 ≡ take k (drop lo l) = ap (take k) p ∙ take-at (take k (drop lo l)) (drop k l) k n2 in
-    let b1 : lo ≤ length (take m l) = omega arith in
-    let b2 : k ≤ length (drop lo (take m l)) = omega (arith, length-drop lo (take m l)) in
-    let same : take k (drop lo l) ≡ take k (drop lo (take m l)) =
-    ap (λ (x : List ℕ). take k (drop lo x)) (sym (take-append-drop m l))
-    ∙ ap (take k) (drop-append-le lo (take m l) (drop m l) b1)
-    ∙ take-append-le k (drop lo (take m l)) (drop m l) b2 in
-    rw (q, front, n3, ← same, n2)
+-- k words from lo on, all among the cells cs in front, go to the front
+shifted : {l l1 : List ℕ} (cs rest : List ℕ) (lo k : ℕ) → lo + k ≤ length cs → l ≡ cs ++ rest → l1 ≡ take k (drop lo l) ++ drop k l
+    → take k l1 ≡ take k (drop lo cs)
+shifted {l} cs rest lo k room is p =
+    let n1 : k ≤ length (drop lo cs) = omega (arith, length-drop lo cs) in
+    let same : take k (drop lo l) ≡ take k (drop lo cs) =
+    ap (λ (x : List ℕ). take k (drop lo x)) is
+    ∙ ap (take k) (drop-append-le lo cs rest (omega arith))
+    ∙ take-append-le k (drop lo cs) rest n1 in
+    let n2 : length (take k (drop lo l)) ≡ k = ap length same ∙ length-take-le k (drop lo cs) n1 in
+    ap (take k) p ∙ take-at (take k (drop lo l)) (drop k l) k n2 ∙ same
 
--- what `trim` ensures, of the cells cs
-abbrev Trimmed : ℕ → ℕ → ℕ → List ℕ → Cut → List ℕ → Type 0
-Trimmed e over under cs r words =
+-- what `trim` ensures, of the cells cs in front of the words l
+abbrev Trimmed : ℕ → ℕ → ℕ → List ℕ → Cut → List ℕ → List ℕ → Type 0
+Trimmed e over under cs r l l1 =
     (r .hi ≡ kept e over cs) × (r .lo ≡ dropped e under cs) × (r .over ≡ over + sum (drop (r .hi) cs)) × (r .under ≡ under + sum (take (r .lo) cs))
-    × (words ≡ padded (take (r .hi - r .lo) (drop (r .lo) cs)))
+    × (l1 ≡ take (r .hi - r .lo) (drop (r .lo) l) ++ drop (r .hi - r .lo) l)
 
 -- ---- step
 
 same-walked : {l l′ : ℤ} {u u′ x x′ y y′ : ℕ} → l ≡ l′ → u ≡ u′ → x ≡ x′ → y ≡ y′
     → _≡_ {A = Walked} (record { lower = l; upper = u; over = x; under = y }) (record { lower = l′; upper = u′; over = x′; under = y′ })
 same-walked p q r t = λ i. record { lower = p i; upper = q i; over = r i; under = t i }
+
+-- what `first_above` asks of a lower boundary, which code reads from its bits
+abbrev pub Counted : ℤ → Type 0
+Counted z = (z ≡ below (firstAbove z)) × (firstAbove z ≤ suc horizonLimit)
+
+module _ {z : ℤ} (h : Counted z) where
+  pub lower-back : toZ w32 (ofZ w32 z) ≡ z
+  lower-back = back z (firstAbove z) (h .0) (h .1)
+
+  pub counted-bits : Counted (toZ w32 (ofZ w32 z))
+  counted-bits = rw lower-back h
+
+  pub first-is : {f : ℕ} → f ≡ firstAbove (toZ w32 (ofZ w32 z)) → f ≡ firstAbove z
+  first-is p = p ∙ ap firstAbove lower-back
 
 module _ {a e : ℕ} {w : Walked} {words : List ℕ} (s : Steppable a e w words) where
   abbrev row : Row
@@ -69,6 +79,10 @@ module _ {a e : ℕ} {w : Walked} {words : List ℕ} (s : Steppable a e w words)
   abbrev cells : List ℕ
   cells = newMasses a (row .masses)
 
+  -- the row after the step
+  abbrev pub next : Row
+  next = stepRow a e row
+
   pub row-length : length (row .masses) ≡ w .upper - firstAbove (w .lower)
   unfolding rowOf
   row-length = length-take-le (w .upper - firstAbove (w .lower)) words (omega (arith, s .size, s .narrow))
@@ -76,14 +90,8 @@ module _ {a e : ℕ} {w : Walked} {words : List ℕ} (s : Steppable a e w words)
   pub order : firstAbove (w .lower) < w .upper
   order = omega (arith, row-length, s .sound .live)
 
-  pub early : firstAbove (w .lower) ≤ suc horizonLimit
-  early = omega (arith, order, s .early)
-
-  pub lower-back : toZ w32 (ofZ w32 (w .lower)) ≡ w .lower
-  lower-back = back (w .lower) (firstAbove (w .lower)) (s .signed) early
-
-  pub first-is : {f : ℕ} → f ≡ firstAbove (toZ w32 (ofZ w32 (w .lower))) → f ≡ firstAbove (w .lower)
-  first-is p = p ∙ ap firstAbove lower-back
+  pub counted : Counted (w .lower)
+  counted = (s .signed, omega (arith, order, s .early))
 
   -- the words after `spread`: the cells stand in front
   module _ (f : ℕ) (f-is : f ≡ firstAbove (w .lower)) (p1 : List ℕ)
@@ -103,8 +111,8 @@ module _ {a e : ℕ} {w : Walked} {words : List ℕ} (s : Steppable a e w words)
     more = omega (arith, ap sum front, cells-full a (s .threshold) e (s .half) row (s .sound), s .half)
 
     -- .. and after `trim`
-    module _ (c : Cut) (p2 : List ℕ) (trims : Trimmed e (w .over) (w .under) (take (w .upper - f + 1) p1) c p2) where
-      trims-cells : Trimmed e (w .over) (w .under) cells c p2
+    module _ (c : Cut) (p2 : List ℕ) (trims : Trimmed e (w .over) (w .under) (take (w .upper - f + 1) p1) c p1 p2) where
+      trims-cells : Trimmed e (w .over) (w .under) cells c p1 p2
       trims-cells = rw front at trims
 
       pub places-fit : (c .hi ≤ wide) × (c .lo ≤ wide)
@@ -114,17 +122,73 @@ module _ {a e : ℕ} {w : Walked} {words : List ℕ} (s : Steppable a e w words)
           let h : c .hi ≤ wide = omega (arith, trims-cells .0, k .within, cells-length (massUp a) 0 (row .masses), row-length, s .narrow) in
           (h, omega (arith, trims-cells .0, trims-cells .1, apart a (s .threshold) e (s .half) row (s .sound)))
 
-      pub stepped : (low : ℤ) → low ≡ below (firstAbove (toZ w32 (ofZ w32 (w .lower))) + c .lo)
-          → (_≡_ {A = Walked} (record { lower = toZ w32 (ofZ w32 low); upper = f + c .hi; over = c .over; under = c .under }) (recordOf (stepRow a e row)))
-          × (p2 ≡ padded (stepRow a e row .masses))
-      unfolding rowOf recordOf stepRow cut
-      stepped low q =
+      masses-front : take (length (next .masses)) p2 ≡ next .masses
+      unfolding rowOf stepRow cut
+      masses-front =
           let t = trims-cells in
-          let p = q ∙ ap (λ (z : ℤ). below (firstAbove z + c .lo)) lower-back in
-          let fits = toZ-ofZ w32 low (rw p (below-fits (firstAbove (w .lower) + c .lo) (omega (arith, early, places-fit)))) in (
+          let k = keep a (s .threshold) e (s .half) row (s .sound) in
+          let d = apart a (s .threshold) e (s .half) row (s .sound) in
+          let rest = drop (w .upper - f + 1) p1 in
+          let n : length (next .masses) ≡ c .hi - c .lo = omega (arith, t .0, t .1, step-length a (s .threshold) e (s .half) row (s .sound)) in
+          ap (λ (j : ℕ). take j p2) n
+          ∙ shifted cells rest (c .lo) (c .hi - c .lo) (omega (arith, t .0, t .1, k .within, d))
+          (sym (take-append-drop (w .upper - f + 1) p1) ∙ ap (λ (x : List ℕ). x ++ rest) front) (t .4)
+          ∙ rw (t .0, t .1)
+
+      module _ (low : ℤ) (q : low ≡ below (firstAbove (toZ w32 (ofZ w32 (w .lower))) + c .lo)) where
+        abbrev walked : Walked
+        walked = record { lower = toZ w32 (ofZ w32 low); upper = f + c .hi; over = c .over; under = c .under }
+
+        record-is : walked ≡ recordOf next
+        unfolding rowOf recordOf stepRow cut
+        record-is =
+            let t = trims-cells in
+            let p = q ∙ ap (λ (z : ℤ). below (firstAbove z + c .lo)) (lower-back counted) in
+            let fits = toZ-ofZ w32 low (rw p (below-fits (firstAbove (w .lower) + c .lo) (omega (arith, counted .1, places-fit)))) in
             same-walked (fits ∙ p ∙ ap (λ (d : ℕ). below (firstAbove (w .lower) + d)) (t .1))
-                (omega (arith, t .0, step-upper a (s .threshold) e (s .half) row (s .sound)))
-                (t .2 ∙ ap (λ (k : ℕ). w .over + sum (drop k cells)) (t .0))
-                (t .3 ∙ ap (λ (d : ℕ). w .under + sum (take d cells)) (t .1)),
-            t .4 ∙ rw (t .0, t .1),
-          )
+            (omega (arith, t .0, step-upper a (s .threshold) e (s .half) row (s .sound)))
+            (t .2 ∙ ap (λ (k : ℕ). w .over + sum (drop k cells)) (t .0))
+            (t .3 ∙ ap (λ (d : ℕ). w .under + sum (take d cells)) (t .1))
+
+        pub stepped : (walked ≡ recordOf next) × (rowOf walked p2 ≡ next)
+        stepped = (record-is, ap (λ (r : Walked). rowOf r p2) record-is ∙ row-front next p2 masses-front)
+
+  pub next-fits : length (next .masses) ≤ wide
+  unfolding rowOf
+  next-fits =
+      let m = step-moves a (s .threshold) e (s .half) row (s .sound) in
+      omega (arith, m .upper-slow, m .lower-rises, row-length, s .narrow)
+
+  -- ---- the record r of that step
+
+  module _ {r : Walked} (is : r ≡ recordOf next) where
+    lower-is : r .lower ≡ below (next .first)
+    unfolding recordOf
+    lower-is = ap (λ (x : Walked). x .lower) is
+
+    upper-is : r .upper ≡ upper next
+    unfolding recordOf
+    upper-is = ap (λ (x : Walked). x .upper) is
+
+    first-next : firstAbove (r .lower) ≡ next .first
+    first-next = ap firstAbove lower-is ∙ above-below (next .first)
+
+    pub next-counted : Counted (r .lower)
+    unfolding rowOf
+    next-counted =
+        let m = step-moves a (s .threshold) e (s .half) row (s .sound) in
+        let live = step-sound a (s .threshold) e (s .half) row (s .sound) .live in
+        (lower-is ∙ ap below (sym first-next), omega (arith, first-next, m .upper-slow, live, row-length, order, s .early))
+
+    module _ (f : ℕ) (f-is : f ≡ firstAbove (r .lower)) where
+      pub live-is : f + length (next .masses) ≡ r .upper
+      live-is = omega (arith, first-next, upper-is)
+
+      -- its words, cleared behind the masses
+      pub cleared : (l l1 : List ℕ) → rowOf r l ≡ next → length l ≡ wide
+          → l1 ≡ take (r .upper - f) l ++ replicate (length l - (r .upper - f)) 0 → l1 ≡ padded (next .masses)
+      unfolding rowOf padded
+      cleared l l1 same size p =
+          let n : r .upper - f ≡ length (next .masses) = omega (arith, live-is) in
+          let m : take (r .upper - f) l ≡ next .masses = rw f-is (ap (λ (x : Row). x .masses) same) in
+          rw (p, m, size, n)

@@ -49,7 +49,7 @@ module _ (a : ℕ) (threshold : a ≤ million) (e : ℕ) (half : e + e < M) (r :
   unfolding stepRow cut
   step-first = refl
 
-  step-length : length (stepRow a e r .masses) ≡ k - d
+  pub step-length : length (stepRow a e r .masses) ≡ k - d
   unfolding stepRow cut
   step-length = length-take-le (k - d) (drop d cells) (omega (arith, length-drop d cells, keep .within))
 

@@ -2,7 +2,7 @@
 use mathlib.Core.Path.{_≡_, refl, sym, ap, _∙_}
 use mathlib.Core.Bool.{true, false}
 use mathlib.Core.Logic.{_↔_}
-use mathlib.Core.List.{List, _++_}
+use mathlib.Core.List.{List}
 use Prim.Native.Nat.{ℕ, suc, _+_, _-_, _≤_, _<_}
 use native.Mathlib.Omega.{arith}
 use borrow.Author.Tests.{leb-true, le-leb}
@@ -30,15 +30,17 @@ unfolding padded
 padded-length masses h =
     omega (arith, length-append masses (replicate (wide - length masses) 0), length-replicate {A = ℕ} (wide - length masses) 0)
 
--- the record and the words of a row give it back
-pub row-back : (r : Row) → rowOf (recordOf r) (padded (r .masses)) ≡ r
-unfolding rowOf recordOf padded
-row-back r = λ i. record { first = above-below (r .first) i; masses = masses-back i; over = r .over; under = r .under }
+-- a row's record, and words with its masses in front, give it back
+pub row-front : (r : Row) (words : List ℕ) → take (length (r .masses)) words ≡ r .masses → rowOf (recordOf r) words ≡ r
+unfolding rowOf recordOf
+row-front r words h = λ i. record { first = above-below (r .first) i; masses = masses-back i; over = r .over; under = r .under }
   where
-    masses-back : take (upper r - firstAbove (below (r .first))) (r .masses ++ replicate (wide - length (r .masses)) 0) ≡ r .masses
-    masses-back =
-        take-at (r .masses) (replicate (wide - length (r .masses)) 0) (upper r - firstAbove (below (r .first)))
-        (rw (above-below (r .first)) (omega arith))
+    masses-back : take (upper r - firstAbove (below (r .first))) words ≡ r .masses
+    masses-back = let n : upper r - firstAbove (below (r .first)) ≡ length (r .masses) = omega (arith, above-below (r .first)) in rw n h
+
+pub row-back : (r : Row) → rowOf (recordOf r) (padded (r .masses)) ≡ r
+unfolding padded
+row-back r = row-front r (padded (r .masses)) (take-at (r .masses) (replicate (wide - length (r .masses)) 0) (length (r .masses)) refl)
 
 -- a row's record is wide exactly when the row has 769 live counts
 pub narrow-record : (r : Row) → (isWide (recordOf r) ≡ false) ↔ (¬ (length (r .masses) ≡ wide))

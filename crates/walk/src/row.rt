@@ -7,9 +7,8 @@ ghost use mathlib.Core.List.{_++_};
 ghost use Prim.Native.Nat.{_+_, _-_, _≤_, _<_};
 ghost use lib.ListN.{length, take, drop, replicate};
 ghost use Rattle.walk.specs.Numbers.{sum, allUpTo};
-ghost use Rattle.walk.specs.Units.{million, massLimit, wide};
+ghost use Rattle.walk.specs.Units.{million, massLimit};
 ghost use Rattle.walk.specs.Row.{newMasses, kept, dropped};
-ghost use Rattle.walk.specs.Record.{padded};
 
 // Where a boundary lies among the new masses, and the spent mass of its side then.
 struct Edge {
@@ -117,15 +116,15 @@ pub fn clear_from(part: &mut [u64], k: usize)
     }
 }
 
-// Boundaries and spent masses (rules 3.4 to 3.6) on the first m words: what lies between the boundaries moves to the front, and zeros follow.
+// Boundaries and spent masses (rules 3.4 to 3.6) on the first m words: what lies between the boundaries moves to the front.
 pub(crate) fn trim(part: &mut [u64], m: usize, over: u64, under: u64, e: u64) -> Cut
-    requires { ⌜ (length (now part) ≡ wide) × (m ≤ wide) × (over ≤ e) × (under ≤ e) × (e + e < sum (take m (now part)) + over + under) ⌝ }
+    requires { ⌜ (m ≤ length (now part)) × (over ≤ e) × (under ≤ e) × (e + e < sum (take m (now part)) + over + under) ⌝ }
     ensures { λ r. ⌜
         (r .hi ≡ kept e over (take m (now (part .entry))))
         × (r .lo ≡ dropped e under (take m (now (part .entry))))
         × (r .over ≡ over + sum (drop (r .hi) (take m (now (part .entry)))))
         × (r .under ≡ under + sum (take (r .lo) (take m (now (part .entry)))))
-        × (now (part .exit) ≡ padded (take (r .hi - r .lo) (drop (r .lo) (take m (now (part .entry))))))
+        × (now (part .exit) ≡ take (r .hi - r .lo) (drop (r .lo) (now (part .entry))) ++ drop (r .hi - r .lo) (now (part .entry)))
         ⌝ }
 {
     let top = find_upper(&part[..m], over, e);
@@ -134,7 +133,6 @@ pub(crate) fn trim(part: &mut [u64], m: usize, over: u64, under: u64, e: u64) ->
     let lo = bottom.at;
     let k = hi - lo;
     shift_down(part, lo, k);
-    clear_from(part, k);
     Cut {
         hi: hi,
         lo: lo,

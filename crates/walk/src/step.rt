@@ -1,6 +1,7 @@
 // One step of a walk (rules 3.3 to 3.6).
 
 use crate::Walked;
+use crate::row::clear_from;
 use crate::row::spread;
 use crate::row::trim;
 ghost use mathlib.Core.Path.{_≡_};
@@ -27,13 +28,13 @@ fn raised(lower: i32, by: usize) -> i32
     lower + by as i32
 }
 
-// One step of the walk of the threshold a, in place, with e to spend. For `bucket_test` only, which steps a state that `is_sound` lets
-// through after at most 50,000 draws, and that is not wide.
-pub fn step(part: &mut [u64], w: Walked, a: u32, e: u64) -> Walked
+// One step of the walk of the threshold a, in place, with e to spend: the new live masses stand in front, and what stands behind them is
+// left as it comes. For `bucket_test` only, which steps a state that `is_sound` lets through after at most 50,000 draws, and that is not wide.
+pub fn advance(part: &mut [u64], w: Walked, a: u32, e: u64) -> Walked
     requires { ⌜ Steppable a e w (now part) ⌝ }
     ensures { λ r. ⌜
         (r ≡ recordOf (stepRow a e (rowOf w (now (part .entry)))))
-        × (now (part .exit) ≡ padded (stepRow a e (rowOf w (now (part .entry))) .masses))
+        × (rowOf r (now (part .exit)) ≡ stepRow a e (rowOf w (now (part .entry))))
         ⌝ }
 {
     let first = first_above(w.lower);
@@ -49,4 +50,19 @@ pub fn step(part: &mut [u64], w: Walked, a: u32, e: u64) -> Walked
         over: cut.over,
         under: cut.under,
     }
+}
+
+// The same, and zeros follow the live masses.
+pub fn step(part: &mut [u64], w: Walked, a: u32, e: u64) -> Walked
+    requires { ⌜ Steppable a e w (now part) ⌝ }
+    ensures { λ r. ⌜
+        (r ≡ recordOf (stepRow a e (rowOf w (now (part .entry)))))
+        × (now (part .exit) ≡ padded (stepRow a e (rowOf w (now (part .entry))) .masses))
+        ⌝ }
+{
+    let next = advance(part, w, a, e);
+    let first = first_above(next.lower);
+    let k = (next.upper - first) as usize;
+    clear_from(part, k);
+    next
 }

@@ -10,8 +10,8 @@ enum-told c = search needs
 step-requires : tie.Need-step-requires
 step-requires c κs = rw (c .before .before .enum-told .given .1) at (c .before .before .before .before .before .pre)
 
-mark-of-requires : tie.Need-mark-of-requires
-mark-of-requires c κs = search needs
+walked-on-requires : tie.Need-walked-on-requires
+walked-on-requires c κs = search needs
 
 enum-told-2 : tie.Need-enum-told-2
 enum-told-2 c = search needs
@@ -26,7 +26,7 @@ returns : tie.Need-returns
 unfolding walkedOn
 returns c =
     let w = c .before .before .before in
-    rw (w .before .before .before .enum-told .given .1) (rw (c .mark-of .ensures, w .step .ensures .0), w .step .ensures .1)
+    rw (w .before .before .before .enum-told .given .1) (rw (c .walked-on .ensures, w .step .ensures .0), w .step .ensures .1)
 
 returns-2 : tie.Need-returns-2
 returns-2 c = search needs
@@ -40,7 +40,7 @@ turn-spec =
     (tie.spec
     enum-told
     step-requires
-    mark-of-requires
+    walked-on-requires
     enum-told-2
     enum-told-3
     same-length

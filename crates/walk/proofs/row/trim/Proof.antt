@@ -1,11 +1,11 @@
 -- Both boundaries are found on the same cells, so they do not meet (`places`), and what is shifted lies among the cells.
 use mathlib.Core.Path.{sym}
-use Prim.Native.Nat.{_-_, _≤_, _<_}
+use Prim.Native.Nat.{_≤_, _<_}
 use native.Mathlib.Omega.{arith}
 use borrow.Author.Needs.{needs}
 use lib.ListN.{take}
 use lib.Seq.{length-take-le}
-use Rattle.walk.proofs.Parts.{places, trimmed}
+use Rattle.walk.proofs.Parts.{places}
 use Rattle.walk.proofs.row.trim.Statement.{statement}
 use Rattle.walk.proofs.row.trim.Tie as tie
 
@@ -32,7 +32,7 @@ ordered : (c : tie.After-find-lower)
 ordered c =
     let s = c .before .before .before .before .before in
     let a = s .args in
-    let p = places (a .e) (a .over) (a .under) (take (a .m) (a .part .now)) (s .pre .2) (s .pre .3) (s .pre .4)
+    let p = places (a .e) (a .over) (a .under) (take (a .m) (a .part .now)) (s .pre .1) (s .pre .2) (s .pre .3)
     (c .before .before .find-upper .result .at) (c .find-lower .result .at) (c .before .before .find-upper .ensures .0) (c .find-lower .ensures .0) in
     (p .0, omega (arith, p .1, length-take-le (a .m) (a .part .now) (omega (arith, s .pre))))
 
@@ -42,30 +42,15 @@ sub-k c = omega (arith, ordered c)
 shift-down-requires : tie.Need-shift-down-requires
 shift-down-requires c κs = omega (arith, ordered (c .before), c .before .before .before .before .before .before .pre)
 
-clear-from-requires : tie.Need-clear-from-requires
-clear-from-requires c κs =
-    let f = c .before .before .before .before .before in
-    omega (arith, ordered f, c .before .before .before .shift-down .kept .0, f .before .before .before .before .before .pre)
-
 same-length : tie.Need-same-length
 same-length c = search needs
 
 returns : tie.Need-returns
 returns c =
-    let f = c .before .before .before .before .before .before .before .before in
-    let s = f .before .before .before .before .before in
+    let f = c .before .before .before .before in
     let hi = f .before .before .find-upper in
     let lo = f .find-lower in
-    let o = ordered f in
-    let shift = c .before .before .before .before .before .before .shift-down in
-    let clear = c .before .before .clear-from in (
-      hi .ensures .0,
-      lo .ensures .0,
-      hi .ensures .1,
-      lo .ensures .1,
-      trimmed (s .args .part .now) (shift .last .0) (clear .last .0) (s .args .m) (lo .result .at)
-          (hi .result .at - lo .result .at) (s .pre .0) (s .pre .1) (omega (arith, o)) (shift .ensures) (clear .ensures),
-    )
+    (hi .ensures .0, lo .ensures .0, hi .ensures .1, lo .ensures .1, c .before .before .shift-down .ensures)
 
 pub trim-spec : {M : Type 1} → statement M
 trim-spec =
@@ -79,6 +64,5 @@ trim-spec =
     find-lower-requires
     sub-k
     shift-down-requires
-    clear-from-requires
     same-length
     returns)

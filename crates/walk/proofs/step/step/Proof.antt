@@ -1,89 +1,58 @@
--- `spread` leaves the cells in front, and `trim` cuts them where the definition does; the bounds are those of a row that may be stepped.
+-- The new record's boundaries say how many masses stand in front; behind them the words are cleared.
 use mathlib.Core.Path.{_≡_}
-use Prim.Native.Nat.{_≤_}
 use native.Mathlib.Omega.{arith}
 use borrow.Author.Needs.{needs}
-use Rattle.walk.specs.Units.{wide, horizonLimit}
-use Rattle.walk.specs.Record.{firstAbove, rowOf}
-use Rattle.walk.proofs.Parts.{order, early, lower-back, first-is, more, places-fit, stepped}
+use Rattle.walk.specs.Record.{firstAbove}
+use Rattle.walk.proofs.Parts.{counted-bits, first-is, next-counted, live-is, next-fits, cleared}
 use Rattle.walk.proofs.step.step.Statement.{statement}
 use Rattle.walk.proofs.step.step.Tie as tie
 
+advance-requires : tie.Need-advance-requires
+advance-requires c κs = search needs
+
 first-above-requires : tie.Need-first-above-requires
-first-above-requires c κs = let s = c .before .before .pre in rw (lower-back s) (s .signed, early s)
+first-above-requires c κs = let n = c .before .before .before in counted-bits (next-counted (n .before .before .before .pre) (n .advance .ensures .0))
 
-sub-n : tie.Need-sub-n
-sub-n c = let s = c .before .before .before .before .pre in omega (arith, first-is s (c .before .first-above .ensures), order s)
+-- where the new masses end
+f-is : (c : tie.After-first-above)
+    → c .first-above .result ≡ firstAbove (c .before .before .before .before .advance .result .lower)
+f-is c =
+    let n = c .before .before .before .before in
+    first-is (next-counted (n .before .before .before .pre) (n .advance .ensures .0)) (c .first-above .ensures)
 
-cast-n : tie.Need-cast-n
-cast-n c = search needs
+sub-k : tie.Need-sub-k
+sub-k c =
+    let n = c .before .before .before .before .before in
+    omega (arith, live-is (n .before .before .before .pre) (n .advance .ensures .0) _ (f-is (c .before)))
 
-spread-requires : tie.Need-spread-requires
-unfolding rowOf
-spread-requires c κs =
-    let s = c .before .before .before .before .before .pre in
-    let f = first-is s (c .before .before .first-above .ensures) in
-    (omega (arith, f, s .size, s .narrow, order s), s .threshold, rw f (s .small))
+cast-k : tie.Need-cast-k
+cast-k c = search needs
 
-add-m : tie.Need-add-m
-add-m c = search needs
-
-trim-requires : tie.Need-trim-requires
-unfolding rowOf
-trim-requires c κs =
-    let s = c .before .before .before .before .before .before .before .before .before .pre in
-    let spread = c .before .before .before .spread in
-    let live = c .before .before .before .before .before .before .first-above in
-    let f = first-is s (live .ensures) in
-    omega (arith, f, spread .kept .0, s .size, s .narrow, order s, s .sound, more s (live .result) f (spread .last .0) (spread .ensures))
-
--- after `trim`: both places are among the words, and the record is the definition's
-module _ (c : tie.After-trim) where
-  abbrev start : tie.Start
-  start = c .before .before .before .before .before .before .before .before .before .before
-
-  f-is : c .before .before .before .before .before .before .before .first-above .result ≡ firstAbove (start .args .w .lower)
-  f-is = first-is (start .pre) (c .before .before .before .before .before .before .before .first-above .ensures)
-
-  fits : (c .trim .result .hi ≤ wide) × (c .trim .result .lo ≤ wide)
-  fits = places-fit (start .pre) _ f-is _ (c .before .before .before .before .spread .ensures) _ _ (c .trim .ensures)
-
-raised-requires : tie.Need-raised-requires
-raised-requires c κs =
-    let t = c .before .before .before in
-    let s = start t .pre in
-    rw (lower-back s) (s .signed, early s, omega (arith, fits t))
-
-cast-upper : tie.Need-cast-upper
-unfolding wide
-cast-upper c = record { fits = omega (arith, fits (c .before .before .before .before .before)) }
-
-add-upper : tie.Need-add-upper
-unfolding wide horizonLimit
-add-upper c =
-    let t = c .before .before .before .before .before in
-    record { fits = omega (arith, fits t, f-is t, early (start t .pre)) }
+clear-from-requires : tie.Need-clear-from-requires
+clear-from-requires c κs =
+    let n = c .before .before .before .before .before .before in
+    let s = n .before .before .before .pre in
+    omega (arith, live-is s (n .advance .ensures .0) _ (f-is (c .before .before)), next-fits s, n .advance .kept .0, s .size)
 
 same-length : tie.Need-same-length
 same-length c = search needs
 
 returns : tie.Need-returns
 returns c =
-    let t = c .before .before .before .before .before in
-    stepped (start t .pre) _ (f-is t) _ (t .before .before .before .before .spread .ensures) _ _ (t .trim .ensures) _ (c .before .raised .ensures)
+    let n = c .before .before .before .before .before .before .before .before .before in
+    let clear = c .before .before .clear-from in
+    let s = n .before .before .before .pre in
+    let f = f-is (c .before .before .before .before .before) in
+    (n .advance .ensures .0, cleared s (n .advance .ensures .0) _ f _ _ (n .advance .ensures .1) (omega (arith, n .advance .kept .0, s .size)) (clear .ensures))
 
 pub step-spec : {M : Type 1} → statement M
 step-spec =
     tie.close
     (tie.spec
+    advance-requires
     first-above-requires
-    sub-n
-    cast-n
-    spread-requires
-    add-m
-    trim-requires
-    raised-requires
-    cast-upper
-    add-upper
+    sub-k
+    cast-k
+    clear-from-requires
     same-length
     returns)
