@@ -39,8 +39,8 @@ use Rattle.saved_test.proofs.RoundTrip.{same-bytes-hold}
 use Rattle.resumed_test.specs.EverAfter.{AlikeAfter}
 use Rattle.resumed_test.proofs.Simulation.{drawn-alike}
 use Rattle.resumed_test.proofs.Demand.{carried-sound, carried-savable}
-use Rattle.calls.specs.Calls.{answerNumber, Called, roomRefusal, calledBy, planOf, ownWords, calledBegin, calledDraw}
-use Rattle.calls.specs.Chain.{Call, kept, savedAfter, lastCalled, unless12, drawsOf, Returns, Returned, Follows, ChainTheorem}
+use Rattle.calls.specs.Calls.{answerNumber, Called, roomRefusal, calledBy, ownWords, calledBegin, calledDraw}
+use Rattle.calls.specs.Chain.{Call, kept, unless12, savedAfter, lastCalled, drawsOf, Returns, Returned, Follows, ChainTheorem}
 use Rattle.calls.proofs.PlanRead.{no-more, also, rule-small, first-small, refusal-small, plan-read}
 
 -- ---- the number of an answer: of the answer rule's from 100 on, of a refusal its own
@@ -108,39 +108,39 @@ module _ (p : Plan) (o : Outcome) (lent : List ℕ) where
 -- a beginning that is answered: the plan was read, and nothing was refused
 module _ (planBytes lent : List ℕ) (large : 100 ≤ calledBegin planBytes lent .number) where
   abbrev begins : Outcome
-  begins = begun (planOf planBytes) (ownWords planBytes)
+  begins = begun (decoded planBytes .plan) (ownWords (decoded planBytes .plan))
 
   abbrev reading : ℕ
   reading = decoded planBytes .refusal
 
   abbrev room : ℕ
-  room = roomRefusal (planOf planBytes) begins lent
+  room = roomRefusal (decoded planBytes .plan) begins lent
 
   none-refused : firstRefusal (reading ∷ room ∷ []) ≡ 0
   unfolding calledBegin
   none-refused =
-      let fits = le? (savedSize (planOf planBytes) (begins .state)) (length lent) in
-      called-large (planOf planBytes) begins lent (firstRefusal (reading ∷ room ∷ []))
+      let fits = le? (savedSize (decoded planBytes .plan) (begins .state)) (length lent) in
+      called-large (decoded planBytes .plan) begins lent (firstRefusal (reading ∷ room ∷ []))
       (first-small _ (also (refusal-small planBytes) (rule-small fits 12 (omega arith) no-more))) large
 
   was-read : decoded planBytes .refusal ≡ 0
   was-read = none-both reading (room ∷ []) (λ q. q, λ q. q) (λ q. q, λ q. q) .0 none-refused .0
 
-  begin-is : calledBegin planBytes lent ≡ calledBy 0 (planOf planBytes) begins lent
+  begin-is : calledBegin planBytes lent ≡ calledBy 0 (decoded planBytes .plan) begins lent
   unfolding calledBegin
-  begin-is = ap (λ (r : ℕ). calledBy r (planOf planBytes) begins lent) none-refused
+  begin-is = ap (λ (r : ℕ). calledBy r (decoded planBytes .plan) begins lent) none-refused
 
 -- ---- under a plan that is read
 
 module _ (planBytes lent : List ℕ) (read : decoded planBytes .refusal ≡ 0) where
   abbrev p : Plan
-  p = planOf planBytes
+  p = decoded planBytes .plan
 
   ok : Accepted p
   ok = plan-read planBytes read
 
   abbrev own : List ℕ
-  own = ownWords planBytes
+  own = ownWords p
 
   own-size : length own ≡ wide * p .count
   own-size = length-replicate (wide * p .count) 0
@@ -201,7 +201,7 @@ module _ (planBytes lent : List ℕ) (read : decoded planBytes .refusal ≡ 0) w
     -- what is claimed of it
     pub record Step : Type 0 where
       pub returns : Returns planBytes lent c cs o
-      pub saved-is : kept (savedAfter planBytes lent cs) last ≡ form (unless12 planBytes lent (eq? (last .number) 12) (c .draw) ds)
+      pub saved-is : kept (savedAfter planBytes lent cs) last ≡ form (unless12 (eq? (last .number) 12) (c .draw) ds)
 
     -- it is the call of its refusal
     last-by : (r : ℕ) → refusal ds (c .draw) (c .lent) ≡ r → last ≡ calledBy r p o (c .lent)
@@ -270,7 +270,7 @@ module _ (planBytes lent : List ℕ) (read : decoded planBytes .refusal ≡ 0) w
     follows-none =
         let answer : test [] .answer ≡ Open = demand-3 p ok own own-size [] .answered in
         record {
-          returned = rw begin (ap answerNumber answer);
+          returned = (rw begin (ap answerNumber answer), rw (begin, form-length p (test [] .state) (test [] .words)));
           saved-is = rw begin (kept-answer p (test []) lent [] (numbers-small []) (rw answer (omega arith)));
         }
 

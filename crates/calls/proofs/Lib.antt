@@ -3,3 +3,4 @@ mod PlanRead
 pub mod Chain
 -- What the code leaves to do.
 mod TurnLaws
+mod CallLaws

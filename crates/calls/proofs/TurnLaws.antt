@@ -3,9 +3,12 @@ use mathlib.Core.Path.{_≡_, refl, sym, ap, _∙_}
 use mathlib.Core.Bool.{Bool, true, false, not}
 use mathlib.Core.List.{List, [], _∷_}
 use Prim.Native.Nat.{ℕ, zero, suc, _+_, _*_, _-_, _≤_, _<_}
+use native.Mathlib.Numerals.{add-one}
 use native.Mathlib.Omega.{arith}
 use lib.IntN.{ℤ}
-use lib.ListN.{length, take}
+use lib.ListN.{length, take, set}
+use Rattle.little.specs.Little.{column, filled, putAt}
+use Rattle.plan.proofs.PlaceLists.{over-length}
 use Rattle.walk.specs.Numbers.{le?}
 use Rattle.walk.specs.Units.{million, wide, horizonLimit}
 use Rattle.walk.specs.Spending.{IsSpending}
@@ -20,24 +23,28 @@ use Rattle.walk.proofs.Tests.{le?-sound}
 use Rattle.walk.proofs.Boundaries.{above-below}
 use Rattle.walk.proofs.SoundnessLaws.{checked, narrow}
 use Rattle.walk.proofs.WalkFacts.{step-facts}
-use Rattle.plan.specs.Places.{unless, firstRefusal}
+use Rattle.plan.specs.Places.{unless, firstRefusal, overTo, joinTo}
 use Rattle.plan.specs.Plan.{thresholdAt, spendingOf, planRefusal, Accepted}
 use Rattle.plan.specs.declared.Plan.{Plan}
 use Rattle.plan.proofs.AcceptedLaws.{accepted, threshold-ok, spends}
 use Rattle.bucket_test.specs.Words.{partAt, wordsFit}
-use Rattle.bucket_test.specs.Turn.{recordAt, wideOpen, walkedOn, recordSound, turnRecord, turnPart, MayTurn}
+use Rattle.bucket_test.specs.Turn.{noRecord, recordAt, recordTurn, wideOpen, walkedOn, recordSound, turnRecord, turnPart, MayTurn}
 use Rattle.bucket_test.specs.Answers.{answerOf, isEnding}
 use Rattle.bucket_test.specs.Draw.{stateSound, drawRefusalOver, drawRefusal, nextState, nextWords}
 use Rattle.bucket_test.specs.declared.Threshold.{Threshold}
 use Rattle.bucket_test.specs.declared.State.{State}
-use Rattle.bucket_test.proofs.TurningLaws.{part-length}
+use Rattle.bucket_test.proofs.TurningLaws.{part-length, record-put}
 use Rattle.bucket_test.proofs.AnsweringLaws.{not-over, thin-at}
 use Rattle.bucket_test.proofs.DrawingLaws.{ones-fit, sound-at, early, all-may-turn}
 use Rattle.bucket_test.proofs.OneStep.{drawn-says, record-next, part-next}
-use Rattle.saved_test.specs.Form.{countsBetween, liveBy, liveCount}
-use Rattle.saved_test.specs.Reading.{wordsIn}
-use Rattle.saved_test.proofs.Judged.{gap-below}
+use Rattle.saved_test.specs.Form.{headerSize, recordSize, massSize, recordOffset, formSize, formLimit, countsBetween, liveBy, liveCount, massesTo, massBytes, savedSize}
+use Rattle.saved_test.specs.Reading.{massOffset, wordsIn}
+use Rattle.saved_test.proofs.Judged.{gap-below, masses-few}
+use Rattle.saved_test.proofs.BytesBack.{masses-within}
 use Rattle.saved_test.proofs.AlikeLaws.{row-same}
+use Rattle.saved_test.proofs.RoundTrip.{masses-same}
+use Rattle.saved_test.proofs.WritingLaws.{masses-next as put-masses}
+use Rattle.saved_test.proofs.ReadingLaws.{held-few, held-inside, held-next, held-front}
 use Rattle.resumed_test.proofs.Simulation.{turn-by}
 use Rattle.calls.specs.Calls.{Judged}
 
@@ -120,6 +127,10 @@ module _ (E : ℕ → ℕ) (n S : ℕ) (a : ℕ) (threshold : a ≤ million) (sp
 
 -- ---- a draw that has been judged
 
+-- the new masses of the threshold at place i, as bytes
+abbrev pub newEntry : Plan → State → List ℕ → ℕ → ℕ → List ℕ
+newEntry p s ws d i = massBytes (liveCount (recordAt (nextState p s ws d) i)) (partAt i (nextWords p s ws d))
+
 module _ (p : Plan) (bytes : List ℕ) (s : State) (d : ℕ) (j : Judged p bytes s d) where
   abbrev ws : List ℕ
   ws = wordsIn p bytes
@@ -135,7 +146,9 @@ module _ (p : Plan) (bytes : List ℕ) (s : State) (d : ℕ) (j : Judged p bytes
 
   pub bit : d ≤ 1
   unfolding drawRefusalOver
-  bit = le?-sound d 1 (go (planRefusal p) (wordsFit p ws) (le? d 1) _ (j .draw))
+  bit =
+      let rest = unless (not (isEnding (answerOf p s))) 10 ∷ unless (stateSound p s ws) 11 ∷ [] in
+      le?-sound d 1 (go (planRefusal p) (wordsFit p ws) (le? d 1) rest (j .draw))
     where
       go : (r : ℕ) (w b : Bool) (rs : List ℕ) → firstRefusal (r ∷ unless w 8 ∷ unless b 9 ∷ rs) ≡ 0 → b ≡ true
       go zero true true rs e = refl
@@ -168,21 +181,32 @@ module _ (p : Plan) (bytes : List ℕ) (s : State) (d : ℕ) (j : Judged p bytes
     part-is : partAt i (nextWords p s ws d) ≡ turnPart a e (suc (s .n)) (s .ones + d) (t .mark) t (partAt i ws)
     part-is = part-next p s ws d (says .0) (says .1) (says .2) (says .3) i l
 
-    -- with the masses of the threshold at the front of q
-    module _ (q : List ℕ) (same : take (liveCount t) q ≡ take (liveCount t) (partAt i ws)) where
-      pub may-turn : length q ≡ wide → MayTurn a e (t .mark) t q
-      may-turn size = may-by t (partAt i ws) q a e (t .mark) same size (all-may-turn p s ws (j .plan) (says .1) (says .2) (says .3) i l)
+    -- with the masses of the threshold, which stand at an offset, read into the front of a part q₀; n′ and e′ are those of the draw
+    module _ (n at : ℕ) (live : n ≡ liveCount t) (here : at ≡ massOffset bytes (p .count) i) (q q₀ : List ℕ)
+        (is : q ≡ filled n (column massSize at massSize bytes) q₀) (size : length q₀ ≡ wide)
+        (n′ e′ : ℕ) (n′-is : n′ ≡ suc (s .n)) (e′-is : e′ ≡ spendingOf p i n′) where
+      same : take (liveCount t) q ≡ take (liveCount t) (partAt i ws)
+      same = rw live at (held-front p bytes s (j .plan) (j .form) (j .state) i l n at live here q q₀ is size)
 
-      pub turned : turnRecord a e (suc (s .n)) (s .ones + d) (t .mark) t q ≡ recordAt next i
-      turned = turn-by t (partAt i ws) q a e (suc (s .n)) (s .ones + d) (t .mark) same ∙ sym record-is
+      q-size : length q ≡ wide
+      unfolding filled
+      q-size = ap length is ∙ over-length n _ q₀ ∙ size
 
-      pub front : (r : Threshold) → r ≡ turnRecord a e (suc (s .n)) (s .ones + d) (t .mark) t q → (q′ : List ℕ)
-          → rowOf (r .walked) q′ ≡ rowOf (r .walked) (turnPart a e (suc (s .n)) (s .ones + d) (t .mark) t q)
-          → take (liveCount r) q′ ≡ take (liveCount r) (partAt i (nextWords p s ws d))
-      front r is q′ row =
-          let r-is : r ≡ turnRecord a e (suc (s .n)) (s .ones + d) (t .mark) t (partAt i ws) = is ∙ turned ∙ record-is in
-          let k = front-by a e (suc (s .n)) (s .ones + d) t (partAt i ws) q q′ (t .mark) refl same (rw r-is at row) in
-          rw (r-is, part-is) k
+      pub may-turn : MayTurn a e′ (t .mark) t q
+      may-turn =
+          rw (e′-is, n′-is)
+          (may-by t (partAt i ws) q a e (t .mark) same q-size (all-may-turn p s ws (j .plan) (says .1) (says .2) (says .3) i l))
+
+      pub turned : (r : Threshold) (q′ : List ℕ) → r ≡ turnRecord a e′ n′ (s .ones + d) (t .mark) t q
+          → rowOf (r .walked) q′ ≡ rowOf (r .walked) (turnPart a e′ n′ (s .ones + d) (t .mark) t q)
+          → (r ≡ recordAt next i) × (take (liveCount r) q′ ≡ take (liveCount r) (partAt i (nextWords p s ws d)))
+      turned r q′ made row =
+          let S = s .ones + d in
+          let made′ : r ≡ turnRecord a e (suc (s .n)) S (t .mark) t q = made ∙ rw (e′-is, n′-is) in
+          let r-is : r ≡ turnRecord a e (suc (s .n)) S (t .mark) t (partAt i ws) =
+          made′ ∙ turn-by t (partAt i ws) q a e (suc (s .n)) S (t .mark) same in
+          let k = front-by a e (suc (s .n)) S t (partAt i ws) q q′ (t .mark) refl same (rw (e′-is, n′-is, r-is) at row) in
+          (r-is ∙ sym record-is, rw (r-is, part-is) k)
 
     -- at most 769 masses, and at most one more than before
     pub grows : (liveCount (recordAt next i) ≤ wide) × (liveCount (recordAt next i) ≤ liveCount t + 1)
@@ -191,3 +215,56 @@ module _ (p : Plan) (bytes : List ℕ) (s : State) (d : ℕ) (j : Judged p bytes
         (grows-by (spendingOf p i) (s .n) (s .ones) a (threshold-ok p ok i l) (spends p ok i l) (suc (s .n)) (s .ones + d) t (partAt i ws)
         (part-length ws (p .count) i (says .1) l) (t .mark) refl (sound-at p s ws (j .plan) (says .1) (says .2) (says .3) i l)
         (thin-at p s (not-over p s (says .2) .0) i l))
+
+  -- ---- the offsets of a loop over the thresholds: where the old masses stand, and where the new ones go
+
+  abbrev pub newOffset : ℕ → ℕ
+  newOffset i = recordOffset (p .count) + massSize * massesTo (recordAt next) i
+
+  pub new-first : headerSize + recordSize * p .count ≡ newOffset 0
+  unfolding massesTo recordOffset
+  new-first = omega arith
+
+  pub new-last : newOffset (p .count) ≡ savedSize p next
+  unfolding formSize
+  new-last = refl
+
+  pub new-small : (i : ℕ) → i ≤ p .count → newOffset i ≤ formLimit
+  unfolding recordOffset wide
+  new-small i h = omega (arith, few, masses-few (recordAt next) i (λ k l. grows k (omega arith) .0))
+
+  module _ (i : ℕ) (l : i < p .count) where
+    pub old-next : (n at : ℕ) → n ≡ liveCount (recordAt s i) → at ≡ massOffset bytes (p .count) i
+        → (at + massSize * n ≤ length bytes) × (at + massSize * n ≡ massOffset bytes (p .count) (i + 1))
+    old-next n at live here = (
+      held-inside p bytes s (j .plan) (j .form) (j .state) i l n at live here,
+      held-next p bytes s (j .plan) (j .form) (j .state) i l n at live here,
+    )
+
+    pub new-next : (r : Threshold) (m to : ℕ) → r ≡ recordAt next i → m ≡ liveCount r → to ≡ newOffset i → (m ≤ wide) × (to + massSize * m ≡ newOffset (i + 1))
+    unfolding massesTo
+    new-next r m to r-is live here =
+        let m-is : m ≡ liveCount (recordAt next i) = live ∙ ap (λ (x : Threshold). liveCount x) r-is in
+        (rw m-is (grows i l .0), rw (here, m-is, add-one i) (omega arith))
+
+    pub new-inside : (r : Threshold) (m to : ℕ) → r ≡ recordAt next i → m ≡ liveCount r → to ≡ newOffset i → to + massSize * m ≤ savedSize p next
+    unfolding formSize
+    new-inside r m to r-is live here =
+        let m-is : m ≡ liveCount (recordAt next i) = live ∙ ap (λ (x : Threshold). liveCount x) r-is in
+        rw (here, m-is) (omega (arith, masses-within (recordAt next) (p .count) i l))
+
+    -- the record goes into its place, and the new masses behind those of the thresholds before
+    pub records-next : (r : Threshold) → r ≡ recordAt next i → (rs : List Threshold)
+        → rs ≡ overTo i (recordTurn p ws (suc (s .n)) (s .ones + d)) (s .records)
+        → set rs i r ≡ overTo (i + 1) (recordTurn p ws (suc (s .n)) (s .ones + d)) (s .records)
+    records-next r r-is rs is = record-put (recordTurn p ws (suc (s .n)) (s .ones + d)) (s .records) rs i is noRecord r (r-is ∙ record-is i l)
+
+    pub masses-next : (r : Threshold) (m to : ℕ) → r ≡ recordAt next i → m ≡ liveCount r → to ≡ newOffset i → (q : List ℕ)
+        → take (liveCount r) q ≡ take (liveCount r) (partAt i (nextWords p s ws d)) → (b b′ b″ : List ℕ)
+        → b′ ≡ putAt (recordOffset (p .count)) (joinTo i (newEntry p s ws d)) b → b″ ≡ putAt to (massBytes m q) b′ → recordOffset (p .count) ≤ length b
+        → b″ ≡ putAt (recordOffset (p .count)) (joinTo (i + 1) (newEntry p s ws d)) b
+    masses-next r m to r-is live here q front b b′ b″ e f long =
+        let m-is : m ≡ liveCount (recordAt next i) = live ∙ ap (λ (x : Threshold). liveCount x) r-is in
+        let same : massBytes m q ≡ newEntry p s ws d i =
+        rw m-is (masses-same (liveCount (recordAt next i)) (partAt i (nextWords p s ws d)) q (rw r-is at front)) in
+        put-masses (recordAt next) (λ k. partAt k (nextWords p s ws d)) (recordOffset (p .count)) i b b′ b″ e (f ∙ rw (here, same)) long

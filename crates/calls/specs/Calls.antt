@@ -40,38 +40,41 @@ abbrev pub calledBy : ℕ → Plan → Outcome → List ℕ → Called
 calledBy zero p o lent = record { number = answerNumber (o .answer); bytes = savedForm p (o .state) (o .words) ++ drop (savedSize p (o .state)) lent }
 calledBy (suc r) p o lent = record { number = suc r; bytes = lent }
 
--- what has been judged of a draw to the test that saved bytes hold, before it is taken
+-- an outcome that only 12 can refuse
+abbrev pub putBy : Plan → Outcome → List ℕ → Called
+putBy p o lent = calledBy (roomRefusal p o lent) p o lent
+
+-- ---- under a plan that was read from plan bytes with the refusal r, 0 for none
+
+-- the call's own words, of the right number: a beginning writes them all
+abbrev pub ownWords : Plan → List ℕ
+ownWords p = replicate (wide * p .count) 0
+
+-- a beginning: r, 12
+abbrev pub begunOn : ℕ → Plan → List ℕ → Called
+begunOn r p lent =
+    let o = begun p (ownWords p) in
+    calledBy (firstRefusal (r ∷ roomRefusal p o lent ∷ [])) p o lent
+
+-- a draw to the test that saved bytes hold: r, 15, then 9, 10, 11, then 12
+abbrev pub drawnOn : ℕ → Plan → List ℕ → ℕ → List ℕ → Called
+drawnOn r p saved d lent =
+    let s = stateIn p saved in
+    let words = wordsIn p saved in
+    let o = drawn p s words d in
+    calledBy (firstRefusal (r ∷ unless (formFits p saved) 15 ∷ drawRefusal p s words d ∷ roomRefusal p o lent ∷ [])) p o lent
+
+-- what has been judged of such a draw before it is taken
 pub record Judged (p : Plan) (saved : List ℕ) (s : State) (d : ℕ) : Type 0 where
   pub plan : planRefusal p ≡ 0
   pub form : formFits p saved ≡ true
   pub state : s ≡ stateIn p saved
   pub draw : drawRefusal p s (wordsIn p saved) d ≡ 0
 
-module _ (planBytes : List ℕ) where
-  abbrev pub planOf : Plan
-  planOf = decoded planBytes .plan
+-- ---- the calls
 
-  -- the call's own words, of the right number: a beginning writes them all
-  abbrev pub ownWords : List ℕ
-  ownWords = replicate (wide * planOf .count) 0
+unfoldable pub calledBegin : List ℕ → List ℕ → Called
+calledBegin planBytes lent = begunOn (decoded planBytes .refusal) (decoded planBytes .plan) lent
 
-  -- a beginning: reading the plan bytes, 12
-  unfoldable pub calledBegin : List ℕ → Called
-  calledBegin lent =
-      let o = begun planOf ownWords in
-      calledBy (firstRefusal (decoded planBytes .refusal ∷ roomRefusal planOf o lent ∷ [])) planOf o lent
-
-  -- a draw to the test that the saved bytes hold: reading the plan bytes, 15, then 9, 10, 11, then 12
-  unfoldable pub calledDraw : List ℕ → ℕ → List ℕ → Called
-  calledDraw saved d lent =
-      let s = stateIn planOf saved in
-      let words = wordsIn planOf saved in
-      let o = drawn planOf s words d in
-      calledBy
-      (firstRefusal (
-      decoded planBytes .refusal
-      ∷ unless (formFits planOf saved) 15
-      ∷ drawRefusal planOf s words d
-      ∷ roomRefusal planOf o lent
-      ∷ []
-      )) planOf o lent
+unfoldable pub calledDraw : List ℕ → List ℕ → ℕ → List ℕ → Called
+calledDraw planBytes saved d lent = drawnOn (decoded planBytes .refusal) (decoded planBytes .plan) saved d lent

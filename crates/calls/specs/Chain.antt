@@ -10,9 +10,11 @@ use Rattle.plan.specs.Places.{eq?}
 use Rattle.bucket_test.specs.Answers.{refusalOf}
 use Rattle.bucket_test.specs.Draw.{Outcome}
 use Rattle.bucket_test.specs.Carried.{carried}
+use Rattle.plan.specs.declared.Plan.{Plan}
 use Rattle.little.specs.Little.{field}
+use Rattle.stored_plan.specs.Reading.{decoded}
 use Rattle.saved_test.specs.Form.{sizeField, savedSize, savedForm}
-use Rattle.calls.specs.Calls.{answerNumber, Called, planOf, ownWords, calledBegin, calledDraw}
+use Rattle.calls.specs.Calls.{answerNumber, Called, ownWords, calledBegin, calledDraw}
 
 -- a draw of any value, and the bytes lent for the new form, any number of them
 pub record Call : Type 0 where
@@ -31,7 +33,15 @@ keptBy false had bytes = had
 abbrev pub kept : List ℕ → Called → List ℕ
 kept had c = keptBy (isAnswer (c .number)) had (c .bytes)
 
+-- a draw is left out where 12 refused it
+abbrev pub unless12 : Bool → ℕ → List ℕ → List ℕ
+unless12 true d ds = ds
+unless12 false d ds = d ∷ ds
+
 module _ (planBytes lent : List ℕ) where
+  abbrev pub planOf : Plan
+  planOf = decoded planBytes .plan
+
   -- the saved bytes after a beginning and these calls, each handed those of the call before; what the last call c returned
   unfoldable pub savedAfter : List Call → List ℕ
   savedAfter [] = kept [] (calledBegin planBytes lent)
@@ -41,24 +51,20 @@ module _ (planBytes lent : List ℕ) where
   lastCalled c cs = calledDraw planBytes (savedAfter cs) (c .draw) (c .lent)
 
   -- the draws that 12 did not refuse, and the test carried over them
-  abbrev pub unless12 : Bool → ℕ → List ℕ → List ℕ
-  unless12 true d ds = ds
-  unless12 false d ds = d ∷ ds
-
   unfoldable pub drawsOf : List Call → List ℕ
   drawsOf [] = []
   drawsOf (c ∷ cs) = unless12 (eq? (lastCalled c cs .number) 12) (c .draw) (drawsOf cs)
 
   abbrev pub testAfter : List ℕ → Outcome
-  testAfter ds = carried (planOf planBytes) (ownWords planBytes) ds
+  testAfter ds = carried planOf (ownWords planOf) ds
 
   abbrev pub formOf : Outcome → List ℕ
-  formOf o = savedForm (planOf planBytes) (o .state) (o .words)
+  formOf o = savedForm planOf (o .state) (o .words)
 
   -- the call c after cs, where o is the carried test after its draw: 12 exactly when neither 9 nor 10 refuses the draw and the new form exceeds
   -- the lent bytes; else the number of the carried test's answer, or of its refusal, 9 or 10; no other refusal
   pub record Returns (c : Call) (cs : List Call) (o : Outcome) : Type 0 where
-    pub by-12 : (lastCalled c cs .number ≡ 12) ↔ ((refusalOf (o .answer) ≡ 0) × (length (c .lent) < savedSize (planOf planBytes) (o .state)))
+    pub by-12 : (lastCalled c cs .number ≡ 12) ↔ ((refusalOf (o .answer) ≡ 0) × (length (c .lent) < savedSize planOf (o .state)))
     pub else-answer : ¬ (lastCalled c cs .number ≡ 12) → lastCalled c cs .number ≡ answerNumber (o .answer)
     pub by-no-other : (100 ≤ lastCalled c cs .number)
         ⊎ ((lastCalled c cs .number ≡ 9) ⊎ ((lastCalled c cs .number ≡ 10) ⊎ (lastCalled c cs .number ≡ 12)))
@@ -66,9 +72,11 @@ module _ (planBytes lent : List ℕ) where
     pub written : 100 ≤ lastCalled c cs .number → lastCalled c cs .bytes ≡ formOf o ++ drop (length (formOf o)) (c .lent)
     pub untouched : lastCalled c cs .number < 100 → lastCalled c cs .bytes ≡ c .lent
 
-  -- the beginning is answered open, and each call as above
+  -- the beginning is answered open, its form in the lent bytes; and each call as above
   unfoldable pub Returned : List Call → Type 0
-  Returned [] = calledBegin planBytes lent .number ≡ 100
+  Returned [] =
+      (calledBegin planBytes lent .number ≡ 100)
+      × (calledBegin planBytes lent .bytes ≡ formOf (testAfter []) ++ drop (length (formOf (testAfter []))) lent)
   Returned (c ∷ cs) = Returns c cs (testAfter (c .draw ∷ drawsOf cs)) × Returned cs
 
   pub record Follows (cs : List Call) : Type 0 where

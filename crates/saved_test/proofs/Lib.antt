@@ -12,6 +12,6 @@ pub mod BytesBack
 pub mod RoundTrip
 -- What the code leaves to do.
 mod SignLaws
-mod CodeLaws
-mod WritingLaws
+pub mod ReadingLaws
+pub mod WritingLaws
 mod Trials

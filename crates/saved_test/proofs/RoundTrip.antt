@@ -120,7 +120,7 @@ none-on-refusal-holds = (
 
 -- ---- equal tests have equal bytes
 
-masses-same : (count : ℕ) (part part′ : List ℕ) → take count part′ ≡ take count part → massBytes count part′ ≡ massBytes count part
+pub masses-same : (count : ℕ) (part part′ : List ℕ) → take count part′ ≡ take count part → massBytes count part′ ≡ massBytes count part
 unfolding massBytes
 masses-same count part part′ e =
     join-cong count _ _ (λ j l. ap (toLE massSize) (sym (getD-take count part′ j 0 l) ∙ ap (λ (xs : List ℕ). getD xs j 0) e ∙ getD-take count part j 0 l))

@@ -1,4 +1,4 @@
-use Rattle.saved_test.proofs.CodeLaws.{fits-short, fits-size, fits-header, fits-records}
+use Rattle.saved_test.proofs.ReadingLaws.{fits-short, fits-size, fits-header, fits-records}
 use Rattle.plan.proofs.PlaceLaws.{passed, failed}
 use borrow.Author.Needs.{needs}
 use Rattle.saved_test.proofs.reading.form_fits.Statement.{statement}

@@ -4,7 +4,7 @@ use mathlib.Core.Path.{sym, _∙_}
 use Rattle.walk.specs.Units.{wide}
 use Rattle.plan.proofs.AcceptedLaws.{accepted}
 use Rattle.plan.proofs.PlaceLaws.{passed, failed}
-use Rattle.saved_test.proofs.CodeLaws.{judged-plan, judged-8, judged-form}
+use Rattle.saved_test.proofs.ReadingLaws.{judged-plan, judged-8, judged-form}
 use borrow.Author.Needs.{needs}
 use Rattle.saved_test.proofs.reading.form_refusal.Statement.{statement}
 use Rattle.saved_test.proofs.reading.form_refusal.Tie as tie

@@ -1,4 +1,4 @@
-use Rattle.saved_test.proofs.CodeLaws.{yes, no, as-read}
+use Rattle.saved_test.proofs.ReadingLaws.{yes, no, as-read}
 use borrow.Author.Needs.{needs}
 use Rattle.saved_test.proofs.reading.header_fits.Statement.{statement}
 use Rattle.saved_test.proofs.reading.header_fits.Tie as tie

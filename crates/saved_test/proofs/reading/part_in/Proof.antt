@@ -1,6 +1,6 @@
 -- The rest is cleared, then the first words are filled.
 use borrow.Author.Needs.{needs}
-use Rattle.saved_test.proofs.CodeLaws.{part-filled}
+use Rattle.saved_test.proofs.ReadingLaws.{part-filled}
 use Rattle.saved_test.proofs.reading.part_in.Statement.{statement}
 use Rattle.saved_test.proofs.reading.part_in.Tie as tie
 

@@ -1,5 +1,5 @@
 -- The parts before place i are read.
-use Rattle.saved_test.proofs.CodeLaws.{part-made, part-few, part-inside, offset-next, offset-first}
+use Rattle.saved_test.proofs.ReadingLaws.{part-made, part-few, part-inside, offset-next, offset-first}
 use Rattle.saved_test.specs.Reading.{recordIn, massOffset, partIn}
 use Rattle.saved_test.specs.Form.{recordOffset, formSize, liveCount}
 use Rattle.bucket_test.proofs.TurningLaws.{part-length, part-lent, words-none, words-all, part-put}

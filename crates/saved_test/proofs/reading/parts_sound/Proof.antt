@@ -12,7 +12,7 @@ use Rattle.plan.proofs.PlaceLaws.{passed, failed, Sought, sought-none, sought-n
 use Rattle.plan.proofs.AcceptedLaws.{accepted}
 use Rattle.saved_test.specs.Form.{liveCount}
 use Rattle.saved_test.specs.Reading.{recordIn, massOffset}
-use Rattle.saved_test.proofs.CodeLaws.{passes, offset-first, held-few, held-inside, held-next, held-passes}
+use Rattle.saved_test.proofs.ReadingLaws.{passes, offset-first, held-few, held-inside, held-next, held-passes}
 use borrow.Author.Needs.{needs}
 use Rattle.saved_test.proofs.reading.parts_sound.Statement.{statement}
 use Rattle.saved_test.proofs.reading.parts_sound.Tie as tie

@@ -10,7 +10,7 @@ use Rattle.plan.proofs.PlaceLaws.{passed, failed}
 use Rattle.bucket_test.specs.Draw.{stateSound}
 use Rattle.bucket_test.specs.declared.State.{State}
 use Rattle.saved_test.specs.Reading.{formFits, stateIn, wordsIn}
-use Rattle.saved_test.proofs.CodeLaws.{form-judged, form-long, form-known, form-sized, read-form, read-11, read-none, words-made}
+use Rattle.saved_test.proofs.ReadingLaws.{form-judged, form-long, form-known, form-sized, read-form, read-11, read-none, words-made}
 use borrow.Author.Needs.{needs}
 use Rattle.saved_test.proofs.reading.read_test.Statement.{statement}
 use Rattle.saved_test.proofs.reading.read_test.Tie as tie

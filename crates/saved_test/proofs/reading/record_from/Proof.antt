@@ -1,4 +1,4 @@
-use Rattle.saved_test.proofs.CodeLaws.{record-made}
+use Rattle.saved_test.proofs.ReadingLaws.{record-made}
 use Rattle.saved_test.specs.Reading.{recordFrom}
 use borrow.Author.Needs.{needs}
 use Rattle.saved_test.proofs.reading.record_from.Statement.{statement}

@@ -3,7 +3,7 @@ use native.Mathlib.Omega.{arith}
 use Rattle.walk.specs.Units.{horizonLimit}
 use Rattle.plan.proofs.AcceptedLaws.{accepted}
 use Rattle.saved_test.specs.Reading.{wordsIn}
-use Rattle.saved_test.proofs.CodeLaws.{sound-late, sound-ones, sound-parts}
+use Rattle.saved_test.proofs.ReadingLaws.{sound-late, sound-ones, sound-parts}
 use borrow.Author.Needs.{needs}
 use Rattle.saved_test.proofs.reading.state_sound_in.Statement.{statement}
 use Rattle.saved_test.proofs.reading.state_sound_in.Tie as tie
