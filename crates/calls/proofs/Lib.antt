@@ -4,3 +4,4 @@ pub mod Chain
 -- What the code leaves to do.
 mod TurnLaws
 mod CallLaws
+mod BeginLaws

@@ -14,7 +14,7 @@ returns : tie.Need-returns
 returns c = let s = c .before .before .before in refused-9 _ _ _ _ (s .pre .0) (c .if1 .taken)
 
 answer-of-requires : tie.Need-answer-of-requires
-answer-of-requires c κs = 
+answer-of-requires c κs =
     let s = c .before .before .before in
     let ok = accepted (s .args .p) .0 (s .pre .0) in
     (ok .count-range .1, ok .buckets-range .1)
@@ -26,7 +26,7 @@ ends : (c : tie.After-is-ending) → c .is-ending .result ≡ isEnding (answerOf
 ends c = c .is-ending .ensures ∙ ap (λ (x : Answer). isEnding x) (c .before .answer-of .ensures)
 
 returns-2 : tie.Need-returns-2
-returns-2 c = 
+returns-2 c =
     let s = c .before .before .before .before .before .before in
     refused-10 _ _ _ _ (s .pre .0) (c .before .before .before .if1 .left) (sym (ends (c .before)) ∙ c .if2 .taken)
 
@@ -37,7 +37,7 @@ same-length : tie.Need-same-length
 same-length c = search needs
 
 returns-3 : tie.Need-returns-3
-returns-3 c = 
+returns-3 c =
     let s = c .before .before .before .before .before .before .before .before .before .before .before in
     refused-by _ _ _ _ (s .pre .0) (c .before .before .before .before .before .before .before .before .if1 .left) (sym (ends (c .before .before .before .before .before .before)) ∙ c .before .before .before .before .before .if2 .left) false
     (failed (c .before .before .before .state-sound-in .ensures) (c .if3 .taken))
@@ -46,7 +46,7 @@ same-length-2 : tie.Need-same-length-2
 same-length-2 c = search needs
 
 returns-4 : tie.Need-returns-4
-returns-4 c = 
+returns-4 c =
     let s = c .before .before .before .before .before .before .before .before .before .before .before in
     refused-by _ _ _ _ (s .pre .0) (c .before .before .before .before .before .before .before .before .if1 .left) (sym (ends (c .before .before .before .before .before .before)) ∙ c .before .before .before .before .before .if2 .left) true
     (passed (c .before .before .before .state-sound-in .ensures) (c .if3 .left))

@@ -25,14 +25,13 @@ same-length : tie.Need-same-length
 same-length c = search needs
 
 returns-2 : tie.Need-returns-2
-returns-2 c = 
+returns-2 c =
     let form = passed (c .before .before .before .before .before .before .before .form-fits .ensures) (c .before .before .before .before .before .before .if1 .left) in
     hands-some _ _ _ _ form _ (c .before .before .before .before .before .state-in .ensures) _ (c .before .before .before .draw-refusal .ensures) (c .if2 .taken)
 
 take-into-requires : tie.Need-take-into-requires
 take-into-requires c κs =
-    let s = c .before .before .before .before .before .before .before .before .before .before .before .before .before in
-    (
+    let s = c .before .before .before .before .before .before .before .before .before .before .before .before .before in (
       record {
         plan = s .pre .0;
         form = passed (c .before .before .before .before .before .before .before .before .before .form-fits .ensures) (c .before .before .before .before .before .before .before .before .if1 .left);

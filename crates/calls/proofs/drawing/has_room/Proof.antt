@@ -16,13 +16,13 @@ mul-if1 : tie.Need-mul-if1
 mul-if1 c = record { fits = omega (arith, few _ _ _ _ (c .before .before .before .pre .0)) }
 
 add-if1 : tie.Need-add-if1
-add-if1 c = 
+add-if1 c =
     let s = c .before .before .before in
     let a = s .args in
     record { fits = omega (arith, few _ _ _ _ (s .pre .0), old-small (a .p) (a .bytes .now) (a .s) (a .d) (s .pre .0)) }
 
 returns : tie.Need-returns
-returns c = 
+returns c =
     let s = c .before .before .before .before in
     let a = s .args in
     sym (le?-complete _ _ (omega (arith, size-grows (a .p) (a .bytes .now) (a .s) (a .d) (s .pre .0), c .if1 .taken)))

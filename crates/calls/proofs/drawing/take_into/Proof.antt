@@ -21,7 +21,7 @@ same-length : tie.Need-same-length
 same-length c = search needs
 
 returns : tie.Need-returns
-returns c = 
+returns c =
     let s = c .before .before .before .before .before .before .before .before in
     let a = s .args in
     puts-12 (a .p) (a .bytes .now) (a .s) (a .d) (s .pre .0) (a .lent .now) (failed (c .before .before .before .has-room .ensures) (c .if1 .taken))
@@ -36,8 +36,7 @@ unfolding formSize
 write-front-requires c κs =
     let s = c .before .before .before .before .before .before .before .before .before .before .before .before .before .before .before .before in
     let a = s .args in
-    let room = le?-sound _ _ (passed (c .before .before .before .before .before .before .before .before .before .before .before .has-room .ensures) (c .before .before .before .before .before .before .before .before .if1 .left)) in
-    (
+    let room = le?-sound _ _ (passed (c .before .before .before .before .before .before .before .before .before .before .before .has-room .ensures) (c .before .before .before .before .before .before .before .before .if1 .left)) in (
       few (a .p) (a .bytes .now) (a .s) (a .d) (s .pre .0),
       λ i l. rw (c .before .before .before .before .before .turn-into .ensures .0) (grows (a .p) (a .bytes .now) (a .s) (a .d) (s .pre .0) i l .0),
       omega (arith, room, c .before .before .lent),
