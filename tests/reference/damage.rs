@@ -5,7 +5,7 @@ use crate::draft::Draft;
 use crate::plan::{LARGEST_ALLOWANCE, LEAST_APART};
 use crate::rng::Rng;
 
-fn put(bytes: &mut [u8], from: usize, size: usize, value: u64) {
+pub fn put(bytes: &mut [u8], from: usize, size: usize, value: u64) {
     for i in 0..size {
         if let Some(byte) = bytes.get_mut(from + i) {
             *byte = (value >> (8 * i)) as u8;

@@ -1,4 +1,4 @@
-//! The library's entries, by way of the crate `host`.
+//! The library's entries, by way of the crate `host`, and its two calls for C.
 
 use crate::draft::Draft;
 use crate::plan::Bucket;
@@ -75,6 +75,16 @@ pub struct Written {
     pub size: usize,
 }
 
+/// A saved test that was read; `refusal` is that of the reading.
+#[repr(C)]
+#[derive(Clone, Copy, Debug, Default, PartialEq)]
+pub struct Test {
+    pub refusal: u32,
+    pub n: u32,
+    pub ones: u32,
+    pub records: [Record; 10],
+}
+
 pub const RUN_OPEN: u32 = 0;
 pub const RUN_ENDED: u32 = 1;
 pub const RUN_REFUSED: u32 = 2;
@@ -104,8 +114,31 @@ mod entries {
         pub fn host_report_on(p: Plan, s: State) -> Report;
         pub fn host_read_plan(bytes: *const u8, len: usize) -> Plan;
         pub fn host_write_plan(p: Plan, bytes: *mut u8, len: usize) -> Written;
+        pub fn host_write_test(
+            p: Plan,
+            s: State,
+            words: *const u64,
+            words_len: usize,
+            bytes: *mut u8,
+            len: usize,
+        ) -> Written;
+        pub fn host_read_test(p: Plan, bytes: *const u8, len: usize, words: *mut u64, words_len: usize) -> Test;
         pub fn host_count_begin(h: u32, n: u32) -> Run;
         pub fn host_count_draw(r: Run, d: u8) -> Run;
+    }
+
+    #[link(name = "calls", kind = "static")]
+    extern "C" {
+        pub fn vimorake_begin(plan: *const u8, plan_len: usize, lent: *mut u8, lent_len: usize) -> u32;
+        pub fn vimorake_draw(
+            plan: *const u8,
+            plan_len: usize,
+            saved: *const u8,
+            saved_len: usize,
+            draw: u32,
+            lent: *mut u8,
+            lent_len: usize,
+        ) -> u32;
     }
 }
 
@@ -131,6 +164,24 @@ pub fn read_plan(bytes: &[u8]) -> Plan {
 
 pub fn write_plan(p: Plan, bytes: &mut [u8]) -> Written {
     unsafe { entries::host_write_plan(p, bytes.as_mut_ptr(), bytes.len()) }
+}
+
+/// Of the state its answer is not looked at.
+pub fn write_test(p: Plan, s: State, words: &[u64], bytes: &mut [u8]) -> Written {
+    unsafe { entries::host_write_test(p, s, words.as_ptr(), words.len(), bytes.as_mut_ptr(), bytes.len()) }
+}
+
+pub fn read_test(p: Plan, bytes: &[u8], words: &mut [u64]) -> Test {
+    unsafe { entries::host_read_test(p, bytes.as_ptr(), bytes.len(), words.as_mut_ptr(), words.len()) }
+}
+
+pub fn call_begin(plan: &[u8], lent: &mut [u8]) -> u32 {
+    unsafe { entries::vimorake_begin(plan.as_ptr(), plan.len(), lent.as_mut_ptr(), lent.len()) }
+}
+
+pub fn call_draw(plan: &[u8], saved: &[u8], draw: u32, lent: &mut [u8]) -> u32 {
+    let (old, old_len) = (saved.as_ptr(), saved.len());
+    unsafe { entries::vimorake_draw(plan.as_ptr(), plan.len(), old, old_len, draw, lent.as_mut_ptr(), lent.len()) }
 }
 
 pub fn count_begin(h: u32, n: u32) -> Run {

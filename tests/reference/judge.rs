@@ -140,7 +140,8 @@ pub fn slacks(p: &Plan, s: &State, words: &[u64]) -> [Option<i128>; 14] {
     out
 }
 
-fn spoiled(p: &Plan, s: &State, words: &[u64], fault: Fault) -> bool {
+/// Refusal 11, of words that fit the plan.
+pub fn spoiled(p: &Plan, s: &State, words: &[u64], fault: Fault) -> bool {
     let limit = |clause: usize| match fault {
         Fault::Limit(moved, by) if moved == clause => by,
         _ => 0,

@@ -4,6 +4,7 @@ mod agreement;
 mod any_plan;
 mod big;
 mod boundary;
+mod calls;
 mod case;
 mod choices;
 mod close;
@@ -17,9 +18,12 @@ mod draws;
 mod exact;
 mod examples;
 mod expectation;
+mod form;
+mod form_damage;
 mod gandy;
 mod host;
 mod judge;
+mod kept;
 mod lapses;
 mod limits;
 mod lines;
@@ -32,7 +36,11 @@ mod plan;
 mod random;
 mod rng;
 mod rounding;
+mod rows;
 mod runner;
+mod saved;
+mod saved_cases;
+mod saved_examples;
 mod scenes;
 mod selfcheck;
 mod sequential;
@@ -41,12 +49,15 @@ mod spoiled;
 mod star;
 mod table;
 mod tally;
+mod through;
 mod weights;
 mod whole;
+mod wrong;
 
 use std::process::exit;
 
 const USAGE: &str = "usage: reference COMMAND
+  calls [--seed N]      the library's calls for C, on saved tests and damaged bytes, against the reference
   check [--seed N]      the reference against the rules' examples, no program
   close [--seed N]      the library's entries on plans with thresholds about as close as the rules permit
   compare --program PATH [--seed N] [--keep DIR]
@@ -55,6 +66,7 @@ const USAGE: &str = "usage: reference COMMAND
   gandy [--seed N]      the library's boundaries and the mean draws beside the published ones
   narrower [--seed N]   the library's bucket where several contain the interval, against the reference
   rounding [--seed N]   the library's new masses where their sums leave chosen remainders, against the reference
+  saved [--seed N]      the library's tests written as bytes and read back, against the reference
   spoiled [--seed N]    the library's entries on spoiled states, against the reference";
 
 const SEED: u64 = 20_251;
@@ -96,6 +108,7 @@ fn main() {
         seed_of(seed)
     };
     let good = match command.as_str() {
+        "calls" => calls::run(seed()),
         "check" => selfcheck::run(seed()),
         "close" => close::run(seed()),
         "compare" => compare_program(words),
@@ -103,6 +116,7 @@ fn main() {
         "gandy" => gandy::run(seed()),
         "narrower" => narrower::run(seed()),
         "rounding" => rounding::run(seed()),
+        "saved" => saved::run(seed()),
         "spoiled" => spoiled::run(seed()),
         other => usage(&format!("{other}: no such command")),
     };

@@ -273,8 +273,17 @@ fn spoil_plan(rng: &mut Rng, plan: &mut Plan, n: u32) {
 }
 
 pub fn spoil(rng: &mut Rng, scene: &mut Scene) {
+    spoil_one_of(rng, scene, 26);
+}
+
+/// Only what refusal 11 judges.
+pub fn spoil_judged(rng: &mut Rng, scene: &mut Scene) {
+    spoil_one_of(rng, scene, 17);
+}
+
+fn spoil_one_of(rng: &mut Rng, scene: &mut Scene, ways: u64) {
     let i = rng.below(scene.k() as u64) as usize;
-    match rng.below(26) {
+    match rng.below(ways) {
         0..=2 => spoil_counts(rng, scene, i),
         3..=4 => spoil_mark(rng, scene, i),
         5..=9 => spoil_boundary(rng, scene, i),

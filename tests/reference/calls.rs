@@ -1,0 +1,254 @@
+//! The two calls for C: printed trials, chains of calls from a beginning, and calls with any saved bytes, each held to
+//! `kept`; a chain besides to the test that is carried without saves.
+
+use crate::damage::{extend, flip_bits, header, put, truncate};
+use crate::draft::plan_f;
+use crate::form::{length, LONGEST};
+use crate::form_damage::in_turn;
+use crate::host::{self, draft_of, plan_of, State, OPEN};
+use crate::judge::{self, Fault, PART};
+use crate::kept::{self, code};
+use crate::outcomes::kind_of_refusal;
+use crate::rng::Rng;
+use crate::rows::{Outcome, Rows, MET, OUTCOMES};
+use crate::saved_cases::{any_run, any_scene, numbers_of, sound_scene, OTHER_DRAWS};
+use crate::saved_examples::{bytes_of, small_forms, AFTER_0, FORMS, PLAN_F, REPLACED};
+use crate::scenes::Scene;
+use crate::tally::conclude;
+use crate::wrong::{Wrong, BEGIN, DRAW};
+use std::cmp::Ordering;
+use std::time::Instant;
+
+const CHAINS: u64 = 100;
+const SCENES: u64 = 2600;
+/// Spoiled ones of each scene.
+const SPOILS: u64 = 8;
+/// Draws to a test that has ended.
+const PAST: usize = 8;
+/// How often each row must come up, and each mistake be noticed.
+const NEEDED: u64 = 20;
+const NOTICED: u64 = 4;
+
+// ---- one call by both
+
+fn kind(number: u32) -> String {
+    match number {
+        100 => "open".into(),
+        101..=116 => "decided".into(),
+        120 => "crossed".into(),
+        130 => "wide".into(),
+        140 => "spent".into(),
+        refusal => kind_of_refusal(refusal),
+    }
+}
+
+/// The form at the start of lent bytes, as long as it says.
+fn form_in(lent: &[u8]) -> &[u8] {
+    let whole = lent.get(8..12).map_or(0, |four| four.iter().rev().fold(0, |sum, byte| sum << 8 | *byte as usize));
+    &lent[..whole.min(lent.len())]
+}
+
+fn begin(rows: &mut Rows, rng: &mut Rng, plan: &[u8], room: usize) -> Outcome<u32, u8> {
+    let lent = rng.bytes(room);
+    let mut bytes = lent.clone();
+    let got = (host::call_begin(plan, &mut bytes), bytes);
+    let judged = |wrong| {
+        let mut bytes = lent.clone();
+        (kept::begin(plan, &mut bytes, wrong), bytes)
+    };
+    rows.compare(BEGIN, kind(got.0), &got, judged, || format!("plan {plan:?}"));
+    got
+}
+
+fn draw(rows: &mut Rows, rng: &mut Rng, plan: &[u8], saved: &[u8], d: u32, room: usize) -> Outcome<u32, u8> {
+    let lent = rng.bytes(room);
+    let mut bytes = lent.clone();
+    let got = (host::call_draw(plan, saved, d, &mut bytes), bytes);
+    let judged = |wrong| {
+        let mut bytes = lent.clone();
+        (kept::draw(plan, saved, d, &mut bytes, wrong), bytes)
+    };
+    rows.compare(DRAW, kind(got.0), &got, judged, || format!("draw {d}\n  plan {plan:?}\n  saved {saved:?}"));
+    got
+}
+
+// ---- printed trials
+
+fn compare_examples(rows: &mut Rows, rng: &mut Rng) {
+    let plan = bytes_of(PLAN_F);
+    rows.holds(BEGIN, plan == plan_f().store(), || "plan F is not as printed".into());
+    let refused = begin(rows, rng, &plan, 63).0;
+    rows.holds(BEGIN, refused == 12, || format!("63 bytes: {refused}"));
+    for (draws, number, form) in FORMS {
+        let mut last = begin(rows, rng, &plan, 64);
+        for d in draws {
+            rows.holds(DRAW, last.0 == 100, || format!("{draws:?}: {} before the last", last.0));
+            last = draw(rows, rng, &plan, form_in(&last.1), *d, LONGEST);
+        }
+        let same = last.0 == number && form_in(&last.1) == bytes_of(form);
+        rows.holds(DRAW, same, || format!("{draws:?}: {} with {:?}", last.0, form_in(&last.1)));
+    }
+    let ended = bytes_of(FORMS[2].2);
+    let cut = &ended[..ended.len() - 1];
+    for (saved, d, room, number) in [(&ended[..], 1, 64, 10), (&ended, 2, 64, 9), (&ended, 1, 0, 10), (cut, 2, 64, 15)] {
+        let got = draw(rows, rng, &plan, saved, d, room).0;
+        rows.holds(DRAW, got == number, || format!("ended, draw {d}, {room} lent: {got} for {number}"));
+    }
+    for (at, size, other, number) in REPLACED {
+        let mut saved = bytes_of(AFTER_0);
+        put(&mut saved, at, size, other);
+        for (d, number) in [(0, number), (2, if number == 15 { 15 } else { 9 })] {
+            let got = draw(rows, rng, &plan, &saved, d, 80).0;
+            rows.holds(DRAW, got == number, || format!("{other} at {at}, draw {d}: {got} for {number}"));
+        }
+    }
+}
+
+// ---- chains
+
+/// Room for the new form, and about as much; at times about as much as the old one has.
+fn any_room(rng: &mut Rng, new: usize, old: usize) -> usize {
+    let any = rng.below(new.max(old) as u64 + 1) as usize;
+    let about = rng.pick(&[new - 1, new, new, new + 1, new + 8, new + 700]);
+    rng.pick(&[about, about, about, old, old.saturating_sub(1), any, 0])
+}
+
+/// From a beginning past the end, each call with the form of the last one that was accepted. A draw that 12 refused is
+/// handed over again, most times.
+fn chain(rows: &mut Rows, rng: &mut Rng, place: u64) {
+    let (draft, mut draws) = any_run(rng, place);
+    let (plan, p, k) = (draft.store(), plan_of(&draft), draft.thresholds.len());
+    let room = rng.pick(&[0, length(k, k) - 1, length(k, k) - 8]);
+    begin(rows, rng, &plan, room);
+    let begun = begin(rows, rng, &plan, length(k, k) + room % 2).1;
+    let mut saved = form_in(&begun).to_vec();
+    let mut carried = Scene { plan: p, state: State::default(), words: vec![rng.next(); PART * k], draw: 0 };
+    carried.state = judge::begin(&p, &mut carried.words);
+    let (tight, mut past) = (rng.pick(&[1, 6, 20]), 0);
+    draws.reverse();
+    while let Some(d) = draws.pop() {
+        past += (judge::report_on(&p, &carried.state, Fault::None).answer != OPEN) as usize;
+        if past > PAST {
+            return;
+        }
+        let mut next = carried.clone();
+        next.state = judge::draw(&p, &carried.state, &mut next.words, d.min(2) as u8, Fault::None);
+        let form = numbers_of(&next).store();
+        let room = if rng.chance(tight, 20) { any_room(rng, form.len(), saved.len()) } else { form.len() };
+        let got = draw(rows, rng, &plan, &saved, d, room);
+        let number = match code(next.state.answer, next.state.number, Wrong::None) {
+            100.. if room < form.len() => 12,
+            number => number,
+        };
+        rows.count(DRAW, MET, format!("chain: {}", kind(number)), true);
+        let same = got.0 == number && (number < 100 || form_in(&got.1) == form);
+        rows.holds(DRAW, same, || format!("chain: {} for {number}, draw {d}, {room} lent: {draft:?}", got.0));
+        if !same {
+            return;
+        }
+        if number >= 100 {
+            (carried, saved) = (next, form);
+        } else if number == 12 && rng.chance(4, 5) {
+            draws.push(d);
+        }
+    }
+}
+
+// ---- any plan and saved bytes
+
+/// The plan's bytes; where it has none, or at times, damaged ones.
+fn plan_bytes(rng: &mut Rng, scene: &Scene, good: &Scene) -> Vec<u8> {
+    let stored = draft_of(&scene.plan).map(|draft| draft.store());
+    let damaged = stored.is_none() || rng.chance(1, 12);
+    let mut out = stored.unwrap_or_else(|| draft_of(&good.plan).expect("counts that keep rule 1").store());
+    if damaged {
+        rng.pick(&[header, header, truncate, extend, flip_bits])(rng, &mut out);
+    }
+    out
+}
+
+/// How many bytes the new form has, of a draw that is taken.
+fn new_length(plan: &[u8], saved: &[u8], d: u32) -> Option<usize> {
+    let mut lent = vec![0; LONGEST];
+    let number = kept::draw(plan, saved, d, &mut lent, Wrong::None);
+    (number >= 100).then(|| form_in(&lent).len())
+}
+
+fn compare_call(rows: &mut Rows, rng: &mut Rng, plan: &[u8], saved: &[u8], d: u32) {
+    let new = new_length(plan, saved, d);
+    let room = any_room(rng, new.unwrap_or(64), saved.len());
+    let got = draw(rows, rng, plan, saved, d, room).0;
+    if let Some(new) = new {
+        let longer = match new.cmp(&saved.len()) {
+            Ordering::Less => "shorter",
+            Ordering::Equal => "equal",
+            Ordering::Greater => "longer",
+        };
+        let lent = match room as i64 - new as i64 {
+            ..-1 => "fewer",
+            -1 => "one less",
+            0 => "exactly",
+            1 => "one more",
+            _ => "more",
+        };
+        rows.count(DRAW, MET, format!("{longer} form with {lent} lent"), true);
+    } else if got == 9 {
+        rows.count(DRAW, MET, format!("{d} refused"), true);
+    }
+}
+
+fn compare_scene(rows: &mut Rows, rng: &mut Rng) {
+    let good = sound_scene(rng);
+    for _ in 0..SPOILS {
+        let (scene, saved) = any_scene(rng, &good);
+        let plan = plan_bytes(rng, &scene, &good);
+        let other = rng.pick(&OTHER_DRAWS);
+        let d = rng.pick(&[0, 0, 0, 1, 1, 1, other]);
+        compare_call(rows, rng, &plan, &saved, d);
+        let size = length(scene.k(), scene.k());
+        let room = rng.pick(&[0, size - 1, size, size + 1, size + 300]);
+        begin(rows, rng, &plan, room);
+    }
+}
+
+fn needed(rows: &mut Rows) {
+    let refusals = "refused 1, refused 2, refused 3, refused 4, refused 5, refused 6, refused 7, refused 14, refused 12";
+    for entry in [BEGIN, DRAW] {
+        rows.need(entry, OUTCOMES, refusals, NEEDED);
+        rows.need(entry, OUTCOMES, "open", 1000);
+        rows.need_noticed(entry, NOTICED);
+    }
+    rows.need(DRAW, OUTCOMES, "decided, crossed, wide, spent, refused 15, refused 9, refused 10, refused 11", NEEDED);
+    rows.need(DRAW, MET, "chain: open, chain: refused 9, chain: refused 10, chain: refused 12", 100);
+    rows.need(DRAW, MET, "chain: decided", NEEDED);
+    rows.need(DRAW, MET, "chain: crossed, chain: wide, chain: spent", 1);
+    for new in ["shorter", "longer"] {
+        for lent in ["fewer", "one less", "exactly", "one more", "more"] {
+            rows.need(DRAW, MET, &format!("{new} form with {lent} lent"), NEEDED);
+        }
+    }
+    OTHER_DRAWS.iter().for_each(|d| rows.need(DRAW, MET, &format!("{d} refused"), NEEDED));
+}
+
+pub fn run(seed: u64) -> bool {
+    let began = Instant::now();
+    let rows = &mut Rows::default();
+    needed(rows);
+    let rng = &mut Rng::new(seed, 63_000_000);
+    compare_examples(rows, rng);
+    for (draft, form) in small_forms() {
+        for saved in in_turn(rng, &form) {
+            let d = rng.pick(&[0, 0, 0, 1, 1, 1, 2]);
+            compare_call(rows, rng, &draft.store(), &saved, d);
+        }
+    }
+    for place in 0..CHAINS {
+        chain(rows, &mut Rng::new(seed, 64_000_000 + place), place);
+    }
+    for place in 0..SCENES {
+        compare_scene(rows, &mut Rng::new(seed, 65_000_000 + place));
+    }
+    println!("calls: seed {seed}, {:.1} s", began.elapsed().as_secs_f64());
+    rows.print();
+    conclude(&rows.faults(), "calls: all numbers and bytes agree")
+}

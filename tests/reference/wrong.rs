@@ -1,0 +1,140 @@
+//! Mistakes of saving, reading and the two calls, which the comparisons must notice.
+
+use crate::form::{Reason, REASONS};
+use crate::judge::{Fault, CLAUSES, NEVER_ALONE, NEVER_TAKEN};
+use crate::outcomes;
+
+#[derive(Clone, Copy, Debug, PartialEq)]
+pub enum Wrong {
+    None,
+    SettledStored,
+    SettledBare,
+    MassesReversed,
+    ThresholdsReversed,
+    SpentSwapped,
+    /// One reason of 15 is not looked at; a mark that is unknown is then taken as open.
+    Unjudged(Reason),
+    UnknownAtMost,
+    MarkOfOneByte,
+    LowerUnsigned,
+    /// The count of masses in so many bits.
+    CountOf(u32),
+    /// A refusal is judged before another one.
+    Before(u32, u32),
+    /// Refusal 11 with a limit moved.
+    Eleven(Fault),
+    BehindCleared,
+    RefusedWrites,
+    RefusedHandsBack,
+    TwelveByOneMore,
+    TwelveByOld,
+    BehindLiveKept,
+    SettledKept,
+    PastZero,
+    CrossedWideSwapped,
+    BucketFrom0,
+    DrawOf8Bits,
+}
+
+/// The entries, as the tallies name them.
+pub const WRITE: &str = "write_test";
+pub const READ: &str = "read_test";
+pub const BEGIN: &str = "vimorake_begin";
+pub const DRAW: &str = "vimorake_draw";
+
+/// Stands for the plan's refusals where an order is spoken of.
+pub const PLAN: u32 = 0;
+
+/// The orders of saved 2, 3 and 6.
+pub fn order(entry: &str) -> &'static [u32] {
+    match entry {
+        WRITE => &[PLAN, 8, 11, 12],
+        READ => &[PLAN, 8, 15, 11],
+        BEGIN => &[PLAN, 12],
+        DRAW => &[PLAN, 15, 9, 10, 11, 12],
+        other => panic!("{other} is no entry"),
+    }
+}
+
+/// Each refusal judged before each earlier one. A plan that is refused has no answer, so none that 10 could tell.
+fn orders(entry: &str) -> Vec<Wrong> {
+    let order = order(entry);
+    let pairs = (0..order.len()).flat_map(|late| (0..late).map(move |early| (order[late], order[early])));
+    pairs.filter(|pair| *pair != (10, PLAN)).map(|(late, early)| Wrong::Before(late, early)).collect()
+}
+
+/// The clauses of 11 whose limit, moved by 1 or -1, no call of the entry can tell. Fewer than one live count leave S no
+/// place between the boundaries; in bytes, too many are for 15; and an ended test is for 10.
+fn unseen(entry: &str, clause: usize, by: i128) -> bool {
+    let [s_over_n, few] = NEVER_ALONE;
+    let [_, many] = NEVER_TAKEN;
+    match entry {
+        _ if by < 0 && clause == few => true,
+        WRITE => false,
+        _ if by < 0 && clause == many => true,
+        READ => false,
+        _ => (by < 0 && clause == s_over_n) || (by > 0 && NEVER_TAKEN.contains(&clause)),
+    }
+}
+
+fn limits(entry: &str) -> Vec<Wrong> {
+    let all = (0..CLAUSES.len()).flat_map(|clause| [(clause, -1), (clause, 1)]);
+    let seen = all.filter(|(clause, by)| !unseen(entry, *clause, *by));
+    seen.map(|(clause, by)| Wrong::Eleven(Fault::Limit(clause, by))).collect()
+}
+
+const OF_FORM: [Wrong; 5] = [
+    Wrong::SettledStored,
+    Wrong::SettledBare,
+    Wrong::MassesReversed,
+    Wrong::ThresholdsReversed,
+    Wrong::SpentSwapped,
+];
+
+/// Beside the reasons of 15.
+const OF_READING: [Wrong; 5] = [
+    Wrong::UnknownAtMost,
+    Wrong::MarkOfOneByte,
+    Wrong::LowerUnsigned,
+    Wrong::CountOf(16),
+    Wrong::CountOf(32),
+];
+
+const OF_LENT_BYTES: [Wrong; 3] = [Wrong::BehindCleared, Wrong::RefusedWrites, Wrong::TwelveByOneMore];
+
+pub fn mistakes(entry: &str) -> Vec<Wrong> {
+    let mut out = orders(entry);
+    if entry != BEGIN {
+        out.extend(limits(entry));
+        out.extend(OF_FORM);
+    }
+    if entry == READ || entry == DRAW {
+        out.extend(REASONS.map(Wrong::Unjudged));
+        out.extend(OF_READING);
+    }
+    if entry != READ {
+        out.extend(OF_LENT_BYTES);
+    }
+    out.extend(match entry {
+        WRITE => vec![Wrong::RefusedHandsBack],
+        READ => vec![
+            Wrong::RefusedHandsBack,
+            Wrong::RefusedWrites,
+            Wrong::BehindLiveKept,
+            Wrong::SettledKept,
+            Wrong::PastZero,
+        ],
+        DRAW => vec![Wrong::TwelveByOld, Wrong::CrossedWideSwapped, Wrong::BucketFrom0, Wrong::DrawOf8Bits],
+        _ => vec![],
+    });
+    out
+}
+
+pub fn name(wrong: Wrong) -> String {
+    match wrong {
+        Wrong::Before(late, PLAN) => format!("{late} before the plan's"),
+        Wrong::Before(late, early) => format!("{late} before {early}"),
+        Wrong::Eleven(fault) => outcomes::name(fault),
+        other => format!("{other:?}"),
+    }
+}
