@@ -1,25 +1,25 @@
 //! The two calls for C: printed trials, chains of calls from a beginning, and calls with any saved bytes, each held to
 //! `kept`; a chain besides to the test that is carried without saves.
 
-use crate::damage::{extend, flip_bits, header, put, truncate};
+use crate::damage::put;
 use crate::draft::plan_f;
 use crate::form::{length, LONGEST};
 use crate::form_damage::in_turn;
-use crate::host::{self, draft_of, plan_of, State, OPEN};
+use crate::host::{self, plan_of, State, OPEN};
 use crate::judge::{self, Fault, PART};
 use crate::kept::{self, code};
 use crate::outcomes::kind_of_refusal;
 use crate::rng::Rng;
 use crate::rows::{Outcome, Rows, MET, OUTCOMES};
-use crate::saved_cases::{any_run, any_scene, numbers_of, sound_scene, OTHER_DRAWS};
+use crate::saved_cases::{any_run, any_scene, numbers_of, plan_bytes, sound_scene, OTHER_DRAWS};
 use crate::saved_examples::{bytes_of, small_forms, AFTER_0, FORMS, PLAN_F, REPLACED};
 use crate::scenes::Scene;
 use crate::tally::conclude;
-use crate::wrong::{Wrong, BEGIN, DRAW};
+use crate::wrong::{Wrong, BEGIN, CHAIN, DRAW};
 use std::cmp::Ordering;
 use std::time::Instant;
 
-const CHAINS: u64 = 100;
+const CHAINS: u64 = 160;
 const SCENES: u64 = 2600;
 /// Spoiled ones of each scene.
 const SPOILS: u64 = 8;
@@ -60,7 +60,16 @@ fn begin(rows: &mut Rows, rng: &mut Rng, plan: &[u8], room: usize) -> Outcome<u3
     got
 }
 
-fn draw(rows: &mut Rows, rng: &mut Rng, plan: &[u8], saved: &[u8], d: u32, room: usize) -> Outcome<u32, u8> {
+/// The bytes that a draw is handed, and their draw.
+#[derive(Clone, Copy)]
+struct Call<'a> {
+    plan: &'a [u8],
+    saved: &'a [u8],
+    d: u32,
+}
+
+fn draw(rows: &mut Rows, rng: &mut Rng, entry: &'static str, call: Call, room: usize) -> Outcome<u32, u8> {
+    let Call { plan, saved, d } = call;
     let lent = rng.bytes(room);
     let mut bytes = lent.clone();
     let got = (host::call_draw(plan, saved, d, &mut bytes), bytes);
@@ -68,7 +77,7 @@ fn draw(rows: &mut Rows, rng: &mut Rng, plan: &[u8], saved: &[u8], d: u32, room:
         let mut bytes = lent.clone();
         (kept::draw(plan, saved, d, &mut bytes, wrong), bytes)
     };
-    rows.compare(DRAW, kind(got.0), &got, judged, || format!("draw {d}\n  plan {plan:?}\n  saved {saved:?}"));
+    rows.compare(entry, kind(got.0), &got, judged, || format!("draw {d}\n  plan {plan:?}\n  saved {saved:?}"));
     got
 }
 
@@ -77,13 +86,15 @@ fn draw(rows: &mut Rows, rng: &mut Rng, plan: &[u8], saved: &[u8], d: u32, room:
 fn compare_examples(rows: &mut Rows, rng: &mut Rng) {
     let plan = bytes_of(PLAN_F);
     rows.holds(BEGIN, plan == plan_f().store(), || "plan F is not as printed".into());
-    let refused = begin(rows, rng, &plan, 63).0;
-    rows.holds(BEGIN, refused == 12, || format!("63 bytes: {refused}"));
+    for (plan, room, number) in [(&plan[..], 63, 12), (&plan[..43], 63, 7), (&[], 64, 7)] {
+        let got = begin(rows, rng, plan, room).0;
+        rows.holds(BEGIN, got == number, || format!("{} bytes of the plan, {room} lent: {got} for {number}", plan.len()));
+    }
     for (draws, number, form) in FORMS {
         let mut last = begin(rows, rng, &plan, 64);
         for d in draws {
             rows.holds(DRAW, last.0 == 100, || format!("{draws:?}: {} before the last", last.0));
-            last = draw(rows, rng, &plan, form_in(&last.1), *d, LONGEST);
+            last = draw(rows, rng, DRAW, Call { plan: &plan, saved: form_in(&last.1), d: *d }, LONGEST);
         }
         let same = last.0 == number && form_in(&last.1) == bytes_of(form);
         rows.holds(DRAW, same, || format!("{draws:?}: {} with {:?}", last.0, form_in(&last.1)));
@@ -91,14 +102,14 @@ fn compare_examples(rows: &mut Rows, rng: &mut Rng) {
     let ended = bytes_of(FORMS[2].2);
     let cut = &ended[..ended.len() - 1];
     for (saved, d, room, number) in [(&ended[..], 1, 64, 10), (&ended, 2, 64, 9), (&ended, 1, 0, 10), (cut, 2, 64, 15)] {
-        let got = draw(rows, rng, &plan, saved, d, room).0;
+        let got = draw(rows, rng, DRAW, Call { plan: &plan, saved, d }, room).0;
         rows.holds(DRAW, got == number, || format!("ended, draw {d}, {room} lent: {got} for {number}"));
     }
     for (at, size, other, number) in REPLACED {
         let mut saved = bytes_of(AFTER_0);
         put(&mut saved, at, size, other);
         for (d, number) in [(0, number), (2, if number == 15 { 15 } else { 9 })] {
-            let got = draw(rows, rng, &plan, &saved, d, 80).0;
+            let got = draw(rows, rng, DRAW, Call { plan: &plan, saved: &saved, d }, 80).0;
             rows.holds(DRAW, got == number, || format!("{other} at {at}, draw {d}: {got} for {number}"));
         }
     }
@@ -135,14 +146,13 @@ fn chain(rows: &mut Rows, rng: &mut Rng, place: u64) {
         next.state = judge::draw(&p, &carried.state, &mut next.words, d.min(2) as u8, Fault::None);
         let form = numbers_of(&next).store();
         let room = if rng.chance(tight, 20) { any_room(rng, form.len(), saved.len()) } else { form.len() };
-        let got = draw(rows, rng, &plan, &saved, d, room);
+        let got = draw(rows, rng, CHAIN, Call { plan: &plan, saved: &saved, d }, room);
         let number = match code(next.state.answer, next.state.number, Wrong::None) {
             100.. if room < form.len() => 12,
             number => number,
         };
-        rows.count(DRAW, MET, format!("chain: {}", kind(number)), true);
         let same = got.0 == number && (number < 100 || form_in(&got.1) == form);
-        rows.holds(DRAW, same, || format!("chain: {} for {number}, draw {d}, {room} lent: {draft:?}", got.0));
+        rows.holds(CHAIN, same, || format!("{} for {number}, draw {d}, {room} lent: {draft:?}", got.0));
         if !same {
             return;
         }
@@ -156,17 +166,6 @@ fn chain(rows: &mut Rows, rng: &mut Rng, place: u64) {
 
 // ---- any plan and saved bytes
 
-/// The plan's bytes; where it has none, or at times, damaged ones.
-fn plan_bytes(rng: &mut Rng, scene: &Scene, good: &Scene) -> Vec<u8> {
-    let stored = draft_of(&scene.plan).map(|draft| draft.store());
-    let damaged = stored.is_none() || rng.chance(1, 12);
-    let mut out = stored.unwrap_or_else(|| draft_of(&good.plan).expect("counts that keep rule 1").store());
-    if damaged {
-        rng.pick(&[header, header, truncate, extend, flip_bits])(rng, &mut out);
-    }
-    out
-}
-
 /// How many bytes the new form has, of a draw that is taken.
 fn new_length(plan: &[u8], saved: &[u8], d: u32) -> Option<usize> {
     let mut lent = vec![0; LONGEST];
@@ -177,7 +176,7 @@ fn new_length(plan: &[u8], saved: &[u8], d: u32) -> Option<usize> {
 fn compare_call(rows: &mut Rows, rng: &mut Rng, plan: &[u8], saved: &[u8], d: u32) {
     let new = new_length(plan, saved, d);
     let room = any_room(rng, new.unwrap_or(64), saved.len());
-    let got = draw(rows, rng, plan, saved, d, room).0;
+    let got = draw(rows, rng, DRAW, Call { plan, saved, d }, room).0;
     if let Some(new) = new {
         let longer = match new.cmp(&saved.len()) {
             Ordering::Less => "shorter",
@@ -215,13 +214,12 @@ fn needed(rows: &mut Rows) {
     let refusals = "refused 1, refused 2, refused 3, refused 4, refused 5, refused 6, refused 7, refused 14, refused 12";
     for entry in [BEGIN, DRAW] {
         rows.need(entry, OUTCOMES, refusals, NEEDED);
-        rows.need(entry, OUTCOMES, "open", 1000);
         rows.need_noticed(entry, NOTICED);
     }
-    rows.need(DRAW, OUTCOMES, "decided, crossed, wide, spent, refused 15, refused 9, refused 10, refused 11", NEEDED);
-    rows.need(DRAW, MET, "chain: open, chain: refused 9, chain: refused 10, chain: refused 12", 100);
-    rows.need(DRAW, MET, "chain: decided", NEEDED);
-    rows.need(DRAW, MET, "chain: crossed, chain: wide, chain: spent", 1);
+    rows.need(BEGIN, OUTCOMES, "open", 1000);
+    rows.need(DRAW, OUTCOMES, "open, decided, crossed, wide, spent, refused 15, refused 9, refused 10, refused 11", NEEDED);
+    rows.need(CHAIN, OUTCOMES, "open, decided, refused 9, refused 10, refused 12", NEEDED);
+    rows.need(CHAIN, OUTCOMES, "crossed, wide, spent", 1);
     for new in ["shorter", "longer"] {
         for lent in ["fewer", "one less", "exactly", "one more", "more"] {
             rows.need(DRAW, MET, &format!("{new} form with {lent} lent"), NEEDED);

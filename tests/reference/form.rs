@@ -36,8 +36,12 @@ pub const LONGEST: usize = 61_864;
 /// plan and boundaries ask.
 #[derive(Clone, Copy, Debug, PartialEq, Eq)]
 pub enum Reason {
-    /// A number of the header other than the length.
-    Header(usize),
+    K,
+    Count,
+    RecordsAt,
+    MassesAt,
+    RecordSize,
+    MassSize,
     HeaderLength,
     BytesLength,
     AskedLength,
@@ -48,12 +52,12 @@ pub enum Reason {
 }
 
 pub const REASONS: [Reason; 13] = [
-    Reason::Header(K),
-    Reason::Header(COUNT),
-    Reason::Header(RECORDS_AT),
-    Reason::Header(MASSES_AT),
-    Reason::Header(RECORD_SIZE),
-    Reason::Header(MASS_SIZE),
+    Reason::K,
+    Reason::Count,
+    Reason::RecordsAt,
+    Reason::MassesAt,
+    Reason::RecordSize,
+    Reason::MassSize,
     Reason::HeaderLength,
     Reason::BytesLength,
     Reason::AskedLength,
@@ -209,9 +213,16 @@ pub fn held(k: usize, bytes: &[u8], wrong: Wrong) -> Held {
     }
     let asked = [k as i128, count, 24, from, from + 8 * count, 0, 0, 32, 8];
     let mut reasons: Vec<Reason> = records.into_iter().flat_map(|(.., broken)| broken).collect();
-    let differs = |place: usize| header[place] as i128 != asked[place];
-    let fields = [K, COUNT, RECORDS_AT, MASSES_AT, RECORD_SIZE, MASS_SIZE].into_iter().filter(|place| differs(*place));
-    reasons.extend(fields.map(Reason::Header));
+    let numbers = [
+        (Reason::K, K),
+        (Reason::Count, COUNT),
+        (Reason::RecordsAt, RECORDS_AT),
+        (Reason::MassesAt, MASSES_AT),
+        (Reason::RecordSize, RECORD_SIZE),
+        (Reason::MassSize, MASS_SIZE),
+    ];
+    let differing = numbers.into_iter().filter(|(_, place)| header[*place] as i128 != asked[*place]);
+    reasons.extend(differing.map(|(reason, _)| reason));
     let lengths = [
         (Reason::HeaderLength, header[LENGTH] as i128),
         (Reason::BytesLength, bytes.len() as i128),

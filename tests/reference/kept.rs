@@ -50,7 +50,7 @@ fn twelve(lent: &[u8], size: usize, wrong: Wrong) -> (u32, u32) {
 
 /// The form at the start of the lent bytes, unless the call is refused.
 fn lend(form: &[u8], lent: &mut [u8], refusal: u32, wrong: Wrong) {
-    if refusal > 0 && wrong != Wrong::RefusedWrites {
+    if refusal > 0 && wrong != Wrong::RefusedWrites(refusal) {
         return;
     }
     let size = form.len().min(lent.len());
@@ -70,7 +70,7 @@ pub fn write(p: &Plan, s: &State, words: &[u64], lent: &mut [u8], wrong: Wrong) 
     let spoiled = eleven(p, s, &fitting, wrong);
     let refusal = first([(PLAN, plan_refusal(p)), eight(p, words), spoiled, twelve(lent, form.len(), wrong)], wrong);
     lend(&form, lent, refusal, wrong);
-    let told = refusal == 0 || wrong == Wrong::RefusedHandsBack;
+    let told = refusal == 0 || wrong == Wrong::RefusedHandsBack(refusal);
     Written { refusal, size: if told { form.len() } else { 0 } }
 }
 
@@ -98,10 +98,10 @@ pub fn read(p: &Plan, bytes: &[u8], words: &mut [u64], wrong: Wrong) -> Test {
     let spoiled = eleven(p, &held.state, &held.words, wrong);
     let unfit = judged(15, !held.reasons.is_empty());
     let refusal = first([(PLAN, plan_refusal(p)), eight(p, words), unfit, spoiled], wrong);
-    if refusal == 0 || wrong == Wrong::RefusedWrites {
+    if refusal == 0 || wrong == Wrong::RefusedWrites(refusal) {
         fill(&held, words, wrong);
     }
-    if refusal > 0 && wrong != Wrong::RefusedHandsBack {
+    if refusal > 0 && wrong != Wrong::RefusedHandsBack(refusal) {
         return refused(refusal);
     }
     let State { n, ones, mut records, .. } = held.state;

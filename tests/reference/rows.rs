@@ -49,10 +49,6 @@ impl Rows {
         *self.counts.entry((entry, group, row)).or_default() += so as u64;
     }
 
-    pub fn count_noticed(&mut self, entry: &'static str, wrong: Wrong, so: bool) {
-        self.count(entry, NOTICED, name(wrong), so);
-    }
-
     /// One call by the library and by the reference.
     pub fn compare<A: PartialEq + Debug, B: PartialEq>(
         &mut self,
@@ -64,7 +60,10 @@ impl Rows {
     ) {
         let expected = judged(Wrong::None);
         let place = got.1.iter().zip(&expected.1).position(|(a, b)| a != b);
-        let show = || format!("lent {}, differs at {place:?}\n  library  {:?}\n  expected {:?}\n  {}", got.1.len(), got.0, expected.0, handed());
+        let show = || {
+            let lent = format!("lent {}, of them the first that differs: {place:?}", got.1.len());
+            format!("{lent}\n  library  {:?}\n  expected {:?}\n  {}", got.0, expected.0, handed())
+        };
         let calls = self.calls.entry(entry).or_default();
         *calls += 1;
         let mistaken = *calls % mistaken(entry) == 0 && got.1.len() <= LENT;
@@ -72,7 +71,7 @@ impl Rows {
         self.holds(entry, *got == expected, show);
         if mistaken {
             for wrong in mistakes(entry) {
-                self.count_noticed(entry, wrong, judged(wrong) != *got);
+                self.count(entry, NOTICED, name(wrong), judged(wrong) != *got);
             }
         }
     }
@@ -93,8 +92,8 @@ impl Rows {
 
     pub fn faults(&self) -> Vec<String> {
         let seldom = |(key, times): &(&Key, &u64)| self.counts.get(key).map_or(true, |count| count < times);
-        let few = self.needed.iter().filter(seldom);
-        let mut out: Vec<String> = few.map(|((entry, group, row), _)| format!("seldom, {entry}, {group}: {row}")).collect();
+        let few = self.needed.iter().filter(seldom).map(|(key, _)| key);
+        let mut out: Vec<String> = few.map(|(entry, group, row)| format!("seldom, {entry}, {group}: {row}")).collect();
         out.extend(self.differ.fault());
         out
     }

@@ -12,7 +12,7 @@ use crate::saved_cases::{any_scene, numbers_of, sound_scene, widest_scene};
 use crate::saved_examples::{bytes_of, small_forms, FORMS};
 use crate::scenes::{good_plan, Scene};
 use crate::tally::conclude;
-use crate::through::{carry, go_on, read, scene_of, through, write, AFTERWARDS, LASTING};
+use crate::through::{carry, elsewhere, go_on, read, scene_of, through, write, AFTERWARDS, LASTING};
 use crate::wrong::{Wrong, READ, WRITE};
 use std::time::Instant;
 
@@ -73,6 +73,7 @@ fn write_about(rows: &mut Rows, rng: &mut Rng, scene: &Scene) {
 /// A test through a save; then it and its form, spoiled and damaged.
 fn compare_scene(rows: &mut Rows, rng: &mut Rng, good: &Scene) {
     if let Some(read) = through(rows, rng, good) {
+        elsewhere(rows, rng, good);
         go_on(rows, rng, good, &read);
     }
     for _ in 0..SPOILS {
@@ -118,7 +119,9 @@ fn needed(rows: &mut Rows) {
     rows.need(WRITE, MET, "lent fewer: refused, lent -1: refused, lent +0: done, lent +1: done, lent more: done", 200);
     rows.need(WRITE, MET, "carried test saved, ended test saved", 200);
     rows.need(READ, MET, "0 counted: refused 15, 1 counted: done, 769 counted: done, 770 counted: refused 15", NEEDED);
-    rows.need(READ, MET, "lower -2147483648: refused 15, lower 2147483647: refused 15, upper 4294967295: refused 15", NEEDED);
+    for boundary in ["lower -2147483648", "lower 2147483647", "upper 4294967295"] {
+        rows.need(READ, MET, &format!("{boundary}: refused 15"), NEEDED);
+    }
     rows.need(READ, MET, "settled with large numbers: done", NEEDED);
     (1..=10).for_each(|k| rows.need(READ, MET, &format!("{k} thresholds"), NEEDED));
     rows.need(READ, AFTERWARDS, "tests", 1000);

@@ -2,6 +2,7 @@
 
 use crate::any_plan::{any_horizon, any_plan, plan_of_size};
 use crate::damage::{allowance, bucket, counts, cover, delay_or_horizon, order, threshold};
+use crate::damage::{extend, flip_bits, header, truncate};
 use crate::draft::Draft;
 use crate::draws::draws;
 use crate::examples::{crossing_plan, widening_plan, with_thresholds};
@@ -12,7 +13,7 @@ use crate::judge::PART;
 use crate::kept::fitting;
 use crate::overlap::{any_marks, before_marks, overlapping_run, past_counts};
 use crate::rng::Rng;
-use crate::scenes::{made_up, made_up_with, spoil, spoil_judged, Scene};
+use crate::scenes::{good_plan, made_up, made_up_with, spoil, spoil_judged, Scene};
 use crate::wrong::Wrong;
 
 /// The values of a draw beside 0 and 1; of the last byte alone some are 0 or 1.
@@ -49,8 +50,8 @@ pub fn widest_scene() -> Scene {
 /// A plan and draws of any value, past the end of the test.
 pub fn any_run(rng: &mut Rng, place: u64) -> (Draft, Vec<u32>) {
     let (draft, draws) = match place % 8 {
-        _ if place == 0 => (widest_plan(), (0..900).map(|_| rng.chance(1, 2)).collect()),
-        _ if place == 1 => (widening_plan(50_000), (0..900).map(|n| n % 2 == 1).collect()),
+        _ if place == 0 => (widest_plan(), (0..1200).map(|_| rng.chance(1, 2)).collect()),
+        _ if place == 1 => (widening_plan(50_000), (0..1200).map(|n| n % 2 == 1).collect()),
         2 => (crossing_plan(), (0..120).map(|n| n >= 80).collect()),
         3..=4 => overlapping_run(rng),
         _ => {
@@ -152,4 +153,16 @@ pub fn any_scene(rng: &mut Rng, good: &Scene) -> (Scene, Vec<u8>) {
         damage_bytes(rng, &mut bytes);
     }
     (scene, bytes)
+}
+
+/// The plan's bytes, at times those of another plan; damaged ones where it has none, and at times.
+pub fn plan_bytes(rng: &mut Rng, scene: &Scene, good: &Scene) -> Vec<u8> {
+    let plan = if rng.chance(1, 16) { good_plan(rng) } else { scene.plan };
+    let stored = draft_of(&plan).map(|draft| draft.store());
+    let damaged = stored.is_none() || rng.chance(1, 12);
+    let mut out = stored.unwrap_or_else(|| draft_of(&good.plan).expect("counts that keep rule 1").store());
+    if damaged {
+        rng.pick(&[header, header, truncate, extend, flip_bits])(rng, &mut out);
+    }
+    out
 }

@@ -223,7 +223,8 @@ fn spoil_mass(rng: &mut Rng, scene: &mut Scene, i: usize) {
     }
 }
 
-fn spoil_left_over(rng: &mut Rng, scene: &mut Scene, i: usize) {
+/// Anything where nothing is judged: behind the live words, in settled words and in records past K.
+pub fn spoil_left_over(rng: &mut Rng, scene: &mut Scene, i: usize) {
     let from = match scene.state.records[i].mark {
         OPEN => scene.live_of(i),
         _ => 0,

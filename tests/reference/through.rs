@@ -9,7 +9,7 @@ use crate::overlap::past_counts;
 use crate::rng::Rng;
 use crate::rows::{Outcome, Rows, MET};
 use crate::saved_cases::{any_run, numbers_of};
-use crate::scenes::Scene;
+use crate::scenes::{spoil_left_over, Scene};
 use crate::wrong::{Wrong, READ, WRITE};
 
 /// Draws to a test after its save, and to one that has ended.
@@ -102,6 +102,15 @@ pub fn through(rows: &mut Rows, rng: &mut Rng, scene: &Scene) -> Option<Scene> {
     Some(read)
 }
 
+/// Equal tests, whatever stands elsewhere, have equal bytes.
+pub fn elsewhere(rows: &mut Rows, rng: &mut Rng, scene: &Scene) {
+    let mut other = scene.clone();
+    (0..scene.k()).for_each(|i| spoil_left_over(rng, &mut other, i));
+    let form = numbers_of(scene).store();
+    let written = write(rows, rng, &other, form.len());
+    rows.holds(WRITE, written.as_ref() == Some(&form), || format!("not the bytes of an equal test: {form:?}"));
+}
+
 fn drawn(scene: &Scene, d: u8) -> Scene {
     let mut words = scene.words.clone();
     let state = judge::draw(&scene.plan, &scene.state, &mut words, d, Fault::None);
@@ -164,11 +173,11 @@ pub fn carry(rows: &mut Rows, rng: &mut Rng, place: u64) {
         // The entry's draw has 8 bits.
         let d = d.min(255) as u8;
         (scene, saved) = (drawn(&scene, d), drawn_by_library(&saved, d));
-        let k = plan.count as usize;
-        let parts = scene.words.chunks(PART).zip(saved.words.chunks(PART)).zip(&scene.state.records[..k]);
+        // A settled threshold's words are those of its step or, after a save, zeros (saved 5).
+        let parts = scene.words.chunks(PART).zip(saved.words.chunks(PART)).zip(&scene.state.records);
         let words = parts.into_iter().all(|((a, b), r)| a == b || (r.mark != OPEN && b.iter().all(|word| *word == 0)));
         let same = same_answer(&scene, &saved) && equal(&scene, &saved) && words;
-        let show = || format!("draw {d} after a save\n  {plan:?}\n  never saved {:?}\n  saved {:?}", scene.state, saved.state);
+        let show = || format!("draw {d}\n  {plan:?}\n  never saved {:?}\n  saved {:?}", scene.state, saved.state);
         rows.holds(READ, same, show);
     }
 }

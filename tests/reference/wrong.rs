@@ -24,8 +24,10 @@ pub enum Wrong {
     /// Refusal 11 with a limit moved.
     Eleven(Fault),
     BehindCleared,
-    RefusedWrites,
-    RefusedHandsBack,
+    /// Beside this refusal lent bytes or words change.
+    RefusedWrites(u32),
+    /// Beside this refusal a length or a test is handed back.
+    RefusedHandsBack(u32),
     TwelveByOneMore,
     TwelveByOld,
     BehindLiveKept,
@@ -41,12 +43,14 @@ pub const WRITE: &str = "write_test";
 pub const READ: &str = "read_test";
 pub const BEGIN: &str = "vimorake_begin";
 pub const DRAW: &str = "vimorake_draw";
+/// The same, of a chain of calls: no mistakes are tried.
+pub const CHAIN: &str = "vimorake_draw in chains";
 
 /// Stands for the plan's refusals where an order is spoken of.
 pub const PLAN: u32 = 0;
 
 /// The orders of saved 2, 3 and 6.
-pub fn order(entry: &str) -> &'static [u32] {
+fn order(entry: &str) -> &'static [u32] {
     match entry {
         WRITE => &[PLAN, 8, 11, 12],
         READ => &[PLAN, 8, 15, 11],
@@ -100,33 +104,34 @@ const OF_READING: [Wrong; 5] = [
     Wrong::CountOf(32),
 ];
 
-const OF_LENT_BYTES: [Wrong; 3] = [Wrong::BehindCleared, Wrong::RefusedWrites, Wrong::TwelveByOneMore];
+/// Of a plan's refusals nothing is told but the number.
+fn refusals(entry: &str) -> impl Iterator<Item = u32> {
+    order(entry).iter().copied().filter(|number| *number != PLAN)
+}
 
 pub fn mistakes(entry: &str) -> Vec<Wrong> {
+    if entry == CHAIN {
+        return Vec::new();
+    }
     let mut out = orders(entry);
+    out.extend(refusals(entry).map(Wrong::RefusedWrites));
     if entry != BEGIN {
         out.extend(limits(entry));
         out.extend(OF_FORM);
+    }
+    match entry {
+        READ => out.extend([Wrong::BehindLiveKept, Wrong::SettledKept, Wrong::PastZero]),
+        _ => out.extend([Wrong::BehindCleared, Wrong::TwelveByOneMore]),
+    }
+    match entry {
+        WRITE | READ => out.extend(refusals(entry).map(Wrong::RefusedHandsBack)),
+        DRAW => out.extend([Wrong::TwelveByOld, Wrong::CrossedWideSwapped, Wrong::BucketFrom0, Wrong::DrawOf8Bits]),
+        _ => {}
     }
     if entry == READ || entry == DRAW {
         out.extend(REASONS.map(Wrong::Unjudged));
         out.extend(OF_READING);
     }
-    if entry != READ {
-        out.extend(OF_LENT_BYTES);
-    }
-    out.extend(match entry {
-        WRITE => vec![Wrong::RefusedHandsBack],
-        READ => vec![
-            Wrong::RefusedHandsBack,
-            Wrong::RefusedWrites,
-            Wrong::BehindLiveKept,
-            Wrong::SettledKept,
-            Wrong::PastZero,
-        ],
-        DRAW => vec![Wrong::TwelveByOld, Wrong::CrossedWideSwapped, Wrong::BucketFrom0, Wrong::DrawOf8Bits],
-        _ => vec![],
-    });
     out
 }
 
