@@ -99,11 +99,13 @@ fn compare_examples(rows: &mut Rows, rng: &mut Rng) {
         let same = last.0 == number && form_in(&last.1) == bytes_of(form);
         rows.holds(DRAW, same, || format!("{draws:?}: {} with {:?}", last.0, form_in(&last.1)));
     }
-    let ended = bytes_of(FORMS[2].2);
-    let cut = &ended[..ended.len() - 1];
-    for (saved, d, room, number) in [(&ended[..], 1, 64, 10), (&ended, 2, 64, 9), (&ended, 1, 0, 10), (cut, 2, 64, 15)] {
+    let (ended, open) = (bytes_of(FORMS[2].2), [bytes_of(AFTER_0), vec![0]].concat());
+    let [ended, cut, open, short, long] = [&ended[..56], &ended[..55], &open[..72], &open[..71], &open[..73]];
+    let ended = [(ended, 1, 64, 10), (ended, 2, 64, 9), (ended, 1, 0, 10), (cut, 2, 64, 15)];
+    let open = [(open, 0, 80, 100), (open, 0, 79, 12), (short, 0, 80, 15), (long, 0, 80, 15), (long, 2, 80, 15)];
+    for (saved, d, room, number) in ended.into_iter().chain(open) {
         let got = draw(rows, rng, DRAW, Call { plan: &plan, saved, d }, room).0;
-        rows.holds(DRAW, got == number, || format!("ended, draw {d}, {room} lent: {got} for {number}"));
+        rows.holds(DRAW, got == number, || format!("{saved:?}, draw {d}, {room} lent: {got} for {number}"));
     }
     for (at, size, other, number) in REPLACED {
         let mut saved = bytes_of(AFTER_0);
@@ -135,6 +137,7 @@ fn chain(rows: &mut Rows, rng: &mut Rng, place: u64) {
     let mut saved = form_in(&begun).to_vec();
     let mut carried = Scene { plan: p, state: State::default(), words: vec![rng.next(); PART * k], draw: 0 };
     carried.state = judge::begin(&p, &mut carried.words);
+    rows.holds(CHAIN, saved == numbers_of(&carried).store(), || format!("begun: {saved:?}"));
     let (tight, mut past) = (rng.pick(&[1, 6, 20]), 0);
     draws.reverse();
     while let Some(d) = draws.pop() {

@@ -117,7 +117,7 @@ fn needed(rows: &mut Rows) {
     rows.need(WRITE, OUTCOMES, "refused 12", 1000);
     rows.need(READ, OUTCOMES, "refused 15", 1000);
     rows.need(WRITE, MET, "lent fewer: refused, lent -1: refused, lent +0: done, lent +1: done, lent more: done", 200);
-    rows.need(WRITE, MET, "carried test saved, ended test saved", 200);
+    rows.need(WRITE, MET, "carried test saved, ended test saved", 50);
     rows.need(READ, MET, "0 counted: refused 15, 1 counted: done, 769 counted: done, 770 counted: refused 15", NEEDED);
     for boundary in ["lower -2147483648", "lower 2147483647", "upper 4294967295"] {
         rows.need(READ, MET, &format!("{boundary}: refused 15"), NEEDED);
