@@ -1,0 +1,191 @@
+/* What both yardsticks share, bench/bucket_test.c and bench/saved_test.c: the plan's rules, the walk, the answer, and what a spoiled state is. */
+#include <stdint.h>
+#include <string.h>
+
+#define WIDE 769
+#define WHOLE (UINT64_C(1) << 42)
+#define MILLION 1000000u
+
+enum mark { OPEN_MARK, ABOVE, AT_MOST };
+enum answer { OPEN, DECIDED, CROSSED, IS_WIDE, SPENT, REFUSED };
+
+struct plan {
+    uint32_t count, buckets, delay, horizon;
+    uint32_t threshold[10];
+    uint64_t allowance[10];
+    uint32_t left[16], right[16];
+};
+
+struct record {
+    enum mark mark;
+    uint32_t at;
+    int32_t lower;
+    uint32_t upper;
+    uint64_t over, under;
+};
+
+struct state {
+    uint32_t n, ones;
+    struct record record[10];
+};
+
+struct outcome {
+    enum answer answer;
+    uint32_t number;
+};
+
+static struct outcome outcome(enum answer answer, uint32_t number) {
+    struct outcome o = {answer, number};
+    return o;
+}
+
+/* --- the plan's rules --- */
+
+static int is_end(const struct plan *p, uint32_t x) {
+    if (x == 0 || x == MILLION) return 1;
+    for (uint32_t i = 0; i < p->count; i++)
+        if (p->threshold[i] == x) return 1;
+    return 0;
+}
+
+static int is_covered(const struct plan *p) {
+    uint32_t reach = 0;
+    for (;;) {
+        uint32_t next = reach;
+        for (uint32_t j = 0; j < p->buckets; j++)
+            if (p->left[j] <= reach && p->right[j] > next) next = p->right[j];
+        if (next >= MILLION) return 1;
+        if (next == reach) return 0;
+        reach = next;
+    }
+}
+
+static uint32_t plan_refusal(const struct plan *p) {
+    if (p->count < 1 || p->count > 10 || p->buckets < 2 || p->buckets > 16) return 1;
+    for (uint32_t i = 0, before = 0; i < p->count; before = p->threshold[i++])
+        if (p->threshold[i] <= before || p->threshold[i] >= MILLION) return 2;
+    for (uint32_t i = 1; i < p->count; i++)
+        if (p->threshold[i] - p->threshold[i - 1] < 100) return 14;
+    for (uint32_t i = 0; i < p->count; i++)
+        if (p->allowance[i] < 1 || p->allowance[i] >= WHOLE / 2) return 3;
+    if (p->delay < 1 || p->delay > 65535 || p->horizon < 1 || p->horizon > 50000) return 4;
+    for (uint32_t j = 0; j < p->buckets; j++) {
+        uint32_t l = p->left[j], r = p->right[j];
+        if (l >= r || (l == 0 && r == MILLION) || !is_end(p, l) || !is_end(p, r)) return 5;
+    }
+    return is_covered(p) ? 0 : 6;
+}
+
+static uint64_t bytes_at(const uint8_t *b, int n) {
+    uint64_t v = 0;
+    while (n-- > 0) v = v << 8 | b[n];
+    return v;
+}
+
+static uint32_t read_plan(const uint8_t *b, size_t n, struct plan *p) {
+    memset(p, 0, sizeof *p);
+    if (n < 16) return 7;
+    p->count = bytes_at(b, 2);
+    p->buckets = bytes_at(b + 2, 2);
+    if (p->count < 1 || p->count > 10 || p->buckets < 2 || p->buckets > 16) return 1;
+    size_t ends = 16 + 12 * p->count;
+    if (bytes_at(b + 4, 2) != 16 || bytes_at(b + 6, 2) != ends || n != ends + 8 * p->buckets) return 7;
+    p->delay = bytes_at(b + 8, 4);
+    p->horizon = bytes_at(b + 12, 4);
+    for (uint32_t i = 0; i < p->count; i++) {
+        p->threshold[i] = bytes_at(b + 16 + 12 * i, 4);
+        p->allowance[i] = bytes_at(b + 20 + 12 * i, 8);
+    }
+    for (uint32_t j = 0; j < p->buckets; j++) {
+        p->left[j] = bytes_at(b + ends + 8 * j, 4);
+        p->right[j] = bytes_at(b + ends + 8 * j + 4, 4);
+    }
+    return plan_refusal(p);
+}
+
+/* --- the walk of one threshold --- */
+
+static uint64_t spending(const struct plan *p, uint32_t i, uint32_t n) {
+    return p->allowance[i] * n / ((uint64_t)n + p->delay);
+}
+
+static int is_wide(const struct record *r) {
+    return (int64_t)r->upper - r->lower == WIDE + 1;
+}
+
+/* One step. Words behind the live masses are zero after it if it `clears` them: a saved test has none. */
+static void walk(uint64_t *restrict mass, struct record *r, uint32_t a, uint64_t e, int clears) {
+    uint32_t first = r->lower + 1, n = r->upper - first;
+    uint64_t prev = 0, stay = MILLION - a, come = a;
+    for (uint32_t i = 0; i < n; i++) {
+        uint64_t x = mass[i];
+        mass[i] = (x * stay + prev * come + 999999) / 1000000;
+        prev = x;
+    }
+    mass[n] = (prev * come + 999999) / 1000000;
+    uint32_t hi = n + 1, lo = 0;
+    uint64_t over = r->over, under = r->under;
+    while (hi > 0 && over + mass[hi - 1] <= e) over += mass[--hi];
+    while (lo < hi && under + mass[lo] <= e) under += mass[lo++];
+    if (lo > 0) memmove(mass, mass + lo, (hi - lo) * sizeof *mass);
+    if (clears) memset(mass + (hi - lo), 0, (WIDE - (hi - lo)) * sizeof *mass);
+    r->upper = first + hi;
+    r->lower += lo;
+    r->over = over;
+    r->under = under;
+}
+
+/* --- the answer --- */
+
+static void interval(const struct plan *p, const struct state *s, uint32_t *low, uint32_t *high) {
+    *low = 0;
+    *high = MILLION;
+    for (uint32_t i = 0; i < p->count; i++) {
+        uint32_t t = p->threshold[i];
+        if (s->record[i].mark == ABOVE && t > *low) *low = t;
+        if (s->record[i].mark == AT_MOST && t < *high) *high = t;
+    }
+}
+
+static struct outcome answer_of(const struct plan *p, const struct state *s) {
+    uint32_t low, high;
+    interval(p, s, &low, &high);
+    if (low > high) return outcome(CROSSED, 0);
+    uint32_t number = 0, width = 0;
+    for (uint32_t j = 0; j < p->buckets; j++)
+        if (p->left[j] <= low && high <= p->right[j] && (!number || p->right[j] - p->left[j] < width)) {
+            number = j + 1;
+            width = p->right[j] - p->left[j];
+        }
+    if (number) return outcome(DECIDED, number);
+    for (uint32_t i = 0; i < p->count; i++)
+        if (s->record[i].mark == OPEN_MARK && is_wide(&s->record[i])) return outcome(IS_WIDE, 0);
+    return outcome(s->n == p->horizon ? SPENT : OPEN, 0);
+}
+
+/* --- spoiled states --- */
+
+static int is_sound(const uint64_t *mass, const struct record *r, uint32_t n, uint32_t ones, uint64_t e) {
+    int64_t apart = (int64_t)r->upper - r->lower;
+    if (r->lower < -1 || r->upper > (uint64_t)n + 1 || apart < 2 || apart > WIDE + 1) return 0;
+    if ((int64_t)ones <= r->lower || ones >= r->upper || r->over > e || r->under > e) return 0;
+    uint64_t live = 0;
+    for (int64_t i = 0; i < apart - 1; i++) {
+        if (mass[i] > UINT64_C(1) << 43) return 0;
+        live += mass[i];
+    }
+    return live + r->over + r->under >= WHOLE;
+}
+
+static int state_sound(const struct plan *p, const struct state *s, const uint64_t *words) {
+    if (s->n > p->horizon || s->ones > s->n) return 0;
+    for (uint32_t i = 0; i < p->count; i++) {
+        const struct record *r = &s->record[i];
+        if (r->mark != OPEN_MARK) {
+            if (r->at < 1 || r->at > s->n) return 0;
+        } else if (!is_sound(words + WIDE * i, r, s->n, s->ones, spending(p, i, s->n))) {
+            return 0;
+        }
+    }
+    return 1;
+}
