@@ -37,9 +37,11 @@ static void write_case(const char *name, const uint32_t *t, int count, uint64_t 
 int main(int argc, char **argv) {
     static const uint32_t star[] = {500, 1000, 2000, 8000, 10000, 12000, 45000, 50000, 55000};
     static const uint32_t half[] = {500000}, twentieth[] = {50000};
+    static const uint32_t ten[] = {499550, 499650, 499750, 499850, 499950, 500050, 500150, 500250, 500350, 500450};
     if (argc != 2 || (mkdir(argv[1], 0777), chdir(argv[1])) != 0) return 2;
     write_case("star", star, 9, 488671834, 50000, 100);
     write_case("half", half, 1, 1000000, 50000, 2);
     write_case("plan-f", twentieth, 1, 4398046511, 200, 20);
+    write_case("ten", ten, 10, 1000000, 50000, 2); /* for the longest forms: all ten stay open until they are wide */
     return 0;
 }

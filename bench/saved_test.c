@@ -32,6 +32,28 @@ static void put2(uint8_t *b, uint16_t v) { memcpy(b, &v, sizeof v); }
 static void put4(uint8_t *b, uint32_t v) { memcpy(b, &v, sizeof v); }
 static void put8(uint8_t *b, uint64_t v) { memcpy(b, &v, sizeof v); }
 
+/* --- the stored plan (rules 2) --- */
+
+static uint32_t read_plan(const uint8_t *b, size_t n, struct plan *p) {
+    if (n < 16) return 7;
+    p->count = get2(b);
+    p->buckets = get2(b + 2);
+    if (p->count < 1 || p->count > 10 || p->buckets < 2 || p->buckets > 16) return 1;
+    size_t ends = 16 + 12 * p->count;
+    if (get2(b + 4) != 16 || get2(b + 6) != ends || n != ends + 8 * p->buckets) return 7;
+    p->delay = get4(b + 8);
+    p->horizon = get4(b + 12);
+    for (uint32_t i = 0; i < p->count; i++) {
+        p->threshold[i] = get4(b + 16 + 12 * i);
+        p->allowance[i] = get8(b + 20 + 12 * i);
+    }
+    for (uint32_t j = 0; j < p->buckets; j++) {
+        p->left[j] = get4(b + ends + 8 * j);
+        p->right[j] = get4(b + ends + 8 * j + 4);
+    }
+    return plan_refusal(p);
+}
+
 /* --- reading: refusal 15 (saved 3) --- */
 
 /* A record, and how many masses it counts; -1 for an unknown mark or open boundaries too close or too far apart. */

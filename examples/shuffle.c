@@ -4,12 +4,12 @@
 
    A FILE has the numbers of one group, decimals of at most nine places, with blanks or newlines between. The test is one-sided: a draw is 1 when
    dealing all numbers out anew gives the first group at least its real sum, and so at least the real difference of means. PLAN is a stored plan
-   (rules 2.1). SAVED is made, and replaced after every EVERY draws, 1000 unless said, and at the end. Started again with the same arguments, the test
-   goes on from there. Shuffle i depends on SEED and i alone, so the end depends neither on EVERY nor on where the test was cut off. The end is a line
+   (rules 2.1). SAVED is made, and replaced after every EVERY draws, 1000 unless said, and at the end; started again with the same arguments, the
+   test goes on from there. Shuffle i depends on SEED and i alone, so neither EVERY nor a cut changes the end. That is the line
 
        WORD BUCKET N S
 
-   as the program's is, and the exit status 0; or `refused` and a number, and 1. Usage and files that fail give 2.
+   the first four fields of the program's (rules 9.2), and the exit status 0; or `refused` and a number, and 1. Usage and files that fail give 2.
 
    SAVED holds the form of an open test (saved 1) and nothing else. At the end this is the test before its last draw: started again, the program takes
    that draw once more and prints the same line. From the form of an ended test no call gives the answer: it is refused by 10. */
