@@ -9,16 +9,16 @@ use walk::WIDE;
 use walk::soundness::is_sound;
 use walk::spending::spending_at;
 ghost use mathlib.Core.Path.{_≡_};
-ghost use Prim.Native.Nat.{_*_, _≤_, _<_};
+ghost use Prim.Native.Nat.{_*_, _≤_};
 ghost use lib.ListN.{length};
 ghost use Rattle.walk.specs.Units.{wide, horizonLimit};
 ghost use Rattle.plan.specs.Places.{allTo};
-ghost use Rattle.plan.specs.Plan.{planRefusal, spendingOf};
+ghost use Rattle.plan.specs.Plan.{planRefusal};
 ghost use Rattle.bucket_test.specs.Turn.{recordAt, recordSound, recordSoundAt};
 ghost use Rattle.bucket_test.specs.Draw.{stateSound};
 
 // Of any record and any words: they pass refusal 11 after n draws with so many ones, with e = E(n).
-fn record_sound(t: Threshold, part: &[u64], e: u64, n: u32, ones: u32) -> bool
+pub fn record_sound(t: Threshold, part: &[u64], e: u64, n: u32, ones: u32) -> bool
     ensures { λ r. ⌜ r ≡ recordSound e n ones (t .mark) t (now (part .entry)) ⌝ }
 {
     let mark = t.mark;
@@ -32,15 +32,6 @@ fn record_sound(t: Threshold, part: &[u64], e: u64, n: u32, ones: u32) -> bool
     }
 }
 
-// .. the record at place i of a state, with E(n) by the plan.
-pub fn sound_at(p: Plan, s: State, i: usize, part: &[u64]) -> bool
-    requires { ⌜ (planRefusal p ≡ 0) × (i < p .count) × (s .n ≤ horizonLimit) ⌝ }
-    ensures { λ r. ⌜ r ≡ recordSound (spendingOf p i (s .n)) (s .n) (s .ones) (recordAt s i .mark) (recordAt s i) (now (part .entry)) ⌝ }
-{
-    let e = spending_at(p.allowances[i], p.delay, s.n);
-    record_sound(s.records[i], part, e, s.n, s.ones)
-}
-
 // Whether each of the first K records passes refusal 11; n is judged before.
 fn records_sound(p: Plan, s: State, words: &[u64]) -> bool
     requires { ⌜ (planRefusal p ≡ 0) × (length (now words) ≡ wide * p .count) × (s .n ≤ horizonLimit) ⌝ }
@@ -48,8 +39,10 @@ fn records_sound(p: Plan, s: State, words: &[u64]) -> bool
 {
     let count = p.count as usize;
     for i in 0..count {
+        let t = s.records[i];
+        let e = spending_at(p.allowances[i], p.delay, s.n);
         let at = WIDE * i;
-        if !sound_at(p, s, i, &words[at..at + WIDE]) {
+        if !record_sound(t, &words[at..at + WIDE], e, s.n, s.ones) {
             return false;
         }
     }

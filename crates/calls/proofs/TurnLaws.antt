@@ -181,31 +181,37 @@ module _ (p : Plan) (bytes : List ℕ) (s : State) (d : ℕ) (j : Judged p bytes
     part-is : partAt i (nextWords p s ws d) ≡ turnPart a e (suc (s .n)) (s .ones + d) (t .mark) t (partAt i ws)
     part-is = part-next p s ws d (says .0) (says .1) (says .2) (says .3) i l
 
-    -- with the masses of the threshold, which stand at an offset, read into the front of a part q₀; n′ and e′ are those of the draw
-    module _ (n at : ℕ) (live : n ≡ liveCount t) (here : at ≡ massOffset bytes (p .count) i) (q q₀ : List ℕ)
-        (is : q ≡ filled n (column massSize at massSize bytes) q₀) (size : length q₀ ≡ wide)
-        (n′ e′ : ℕ) (n′-is : n′ ≡ suc (s .n)) (e′-is : e′ ≡ spendingOf p i n′) where
-      same : take (liveCount t) q ≡ take (liveCount t) (partAt i ws)
-      same = rw live at (held-front p bytes s (j .plan) (j .form) (j .state) i l n at live here q q₀ is size)
+    -- with the masses of the threshold, which stand at an offset, read into the front of a part; n and E are those of the draw
+    module _ (at : ℕ) (here : at ≡ massOffset bytes (p .count) i) (part : List ℕ) (size : length part ≡ wide)
+        (n E : ℕ) (n-is : n ≡ suc (s .n)) (E-is : E ≡ spendingOf p i n) where
+      abbrev front : List ℕ
+      front = filled (liveCount t) (column massSize at massSize bytes) part
 
-      q-size : length q ≡ wide
+      same : take (liveCount t) front ≡ take (liveCount t) (partAt i ws)
+      same = held-front p bytes s (j .plan) (j .form) (j .state) i l (liveCount t) at refl here front part refl size
+
+      front-size : length front ≡ wide
       unfolding filled
-      q-size = ap length is ∙ over-length n _ q₀ ∙ size
+      front-size = over-length (liveCount t) _ part ∙ size
 
-      pub may-turn : MayTurn a e′ (t .mark) t q
-      may-turn =
-          rw (e′-is, n′-is)
-          (may-by t (partAt i ws) q a e (t .mark) same q-size (all-may-turn p s ws (j .plan) (says .1) (says .2) (says .3) i l))
+      -- what the turn asks, and what it gives
+      pub may-turn : (liveCount t ≤ length part) × (at + massSize * liveCount t ≤ length bytes) × MayTurn a E (t .mark) t front
+      may-turn = (
+        omega (arith, held-few p bytes s (j .plan) (j .form) (j .state) i l (liveCount t) at refl here, size),
+        held-inside p bytes s (j .plan) (j .form) (j .state) i l (liveCount t) at refl here,
+        rw (E-is, n-is)
+            (may-by t (partAt i ws) front a e (t .mark) same front-size (all-may-turn p s ws (j .plan) (says .1) (says .2) (says .3) i l)),
+      )
 
-      pub turned : (r : Threshold) (q′ : List ℕ) → r ≡ turnRecord a e′ n′ (s .ones + d) (t .mark) t q
-          → rowOf (r .walked) q′ ≡ rowOf (r .walked) (turnPart a e′ n′ (s .ones + d) (t .mark) t q)
-          → (r ≡ recordAt next i) × (take (liveCount r) q′ ≡ take (liveCount r) (partAt i (nextWords p s ws d)))
-      turned r q′ made row =
+      pub turned : (r : Threshold) (q : List ℕ) → r ≡ turnRecord a E n (s .ones + d) (t .mark) t front
+          → rowOf (r .walked) q ≡ rowOf (r .walked) (turnPart a E n (s .ones + d) (t .mark) t front)
+          → (r ≡ recordAt next i) × (take (liveCount r) q ≡ take (liveCount r) (partAt i (nextWords p s ws d)))
+      turned r q made row =
           let S = s .ones + d in
-          let made′ : r ≡ turnRecord a e (suc (s .n)) S (t .mark) t q = made ∙ rw (e′-is, n′-is) in
+          let made′ : r ≡ turnRecord a e (suc (s .n)) S (t .mark) t front = made ∙ rw (E-is, n-is) in
           let r-is : r ≡ turnRecord a e (suc (s .n)) S (t .mark) t (partAt i ws) =
-          made′ ∙ turn-by t (partAt i ws) q a e (suc (s .n)) S (t .mark) same in
-          let k = front-by a e (suc (s .n)) S t (partAt i ws) q q′ (t .mark) refl same (rw (e′-is, n′-is, r-is) at row) in
+          made′ ∙ turn-by t (partAt i ws) front a e (suc (s .n)) S (t .mark) same in
+          let k = front-by a e (suc (s .n)) S t (partAt i ws) front q (t .mark) refl same (rw (E-is, n-is, r-is) at row) in
           (r-is ∙ sym record-is, rw (r-is, part-is) k)
 
     -- at most 769 masses, and at most one more than before

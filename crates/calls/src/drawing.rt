@@ -3,16 +3,16 @@
 ghost use mathlib.Core.Path.{_≡_};
 ghost use mathlib.Core.Bool.{true};
 ghost use Prim.Native.Nat.{ℕ, _+_, _*_, _≤_, _<_};
-ghost use lib.ListN.{length, take};
+ghost use lib.ListN.{length};
 ghost use Rattle.walk.specs.Numbers.{le?};
 ghost use Rattle.walk.specs.Units.{wide};
 ghost use Rattle.plan.specs.Plan.{planRefusal};
-ghost use Rattle.bucket_test.specs.Words.{partAt};
-ghost use Rattle.bucket_test.specs.Turn.{recordAt};
+ghost use Rattle.walk.specs.Record.{rowOf};
+ghost use Rattle.bucket_test.specs.Turn.{turnRecord, turnPart, MayTurn};
 ghost use Rattle.bucket_test.specs.Draw.{drawRefusal, nextState, nextWords, drawn};
-ghost use Rattle.little.specs.Little.{putAt};
-ghost use Rattle.saved_test.specs.Form.{recordOffset, liveCount, savedSize, massEntries};
-ghost use Rattle.saved_test.specs.Reading.{massOffset, stateIn, wordsIn, formFits};
+ghost use Rattle.little.specs.Little.{column, filled, putAt};
+ghost use Rattle.saved_test.specs.Form.{massSize, recordOffset, liveCount, savedSize, massEntries};
+ghost use Rattle.saved_test.specs.Reading.{stateIn, wordsIn, formFits};
 ghost use Rattle.calls.specs.Calls.{putBy, drawnOn, Judged};
 use crate::answers::answer_number;
 use bucket_test::State;
@@ -34,27 +34,27 @@ use saved_test::writing::write_part;
 use walk::WIDE;
 use walk::spending::spending_at;
 
-// The turn of the threshold at place i, whose masses stand at an offset: its record, and its new masses at the front of the part.
+// The turn at draw n of a threshold whose masses stand at an offset: its record, and its new masses at the front of the part.
 fn turn_at(
-    p: Plan,
     bytes: &[u8],
-    s: State,
-    d: u32,
-    i: usize,
     at: usize,
+    t: Threshold,
+    a: u32,
+    e: u64,
+    n: u32,
+    ones: u32,
     part: &mut [u64],
 ) -> Threshold
-    requires { ⌜ Judged p (now bytes) s d × (i < p .count) × (at ≡ massOffset (now bytes) (p .count) i) × (length (now part) ≡ wide) ⌝ }
+    requires { ⌜ (liveCount t ≤ length (now part)) × (at + massSize * liveCount t ≤ length (now bytes))
+        × MayTurn a e (t .mark) t (filled (liveCount t) (column massSize at massSize (now bytes)) (now part)) ⌝ }
     ensures { λ r. ⌜
-        (r ≡ recordAt (nextState p s (wordsIn p (now (bytes .entry))) d) i)
-        × (take (liveCount r) (now (part .exit)) ≡ take (liveCount r) (partAt i (nextWords p s (wordsIn p (now (bytes .entry))) d)))
+        (r ≡ turnRecord a e n ones (t .mark) t (filled (liveCount t) (column massSize at massSize (now (bytes .entry))) (now (part .entry))))
+        × (rowOf (r .walked) (now (part .exit))
+        ≡ rowOf (r .walked) (turnPart a e n ones (t .mark) t (filled (liveCount t) (column massSize at massSize (now (bytes .entry))) (now (part .entry)))))
         ⌝ }
 {
-    let t = s.records[i];
-    let n = s.n + 1;
-    let e = spending_at(p.allowances[i], p.delay, n);
     front_in(bytes, at, live_count(t), part);
-    turn_front(t, part, p.thresholds[i], e, n, s.ones + d)
+    turn_front(t, part, a, e, n, ones)
 }
 
 // The length of the form after the draw.
@@ -63,13 +63,16 @@ fn size_after(p: Plan, bytes: &[u8], s: State, d: u32, part: &mut [u64]) -> usiz
     ensures { λ r. ⌜ r ≡ savedSize p (nextState p s (wordsIn p (now (bytes .entry))) d) ⌝ }
 {
     let count = p.count as usize;
+    let n = s.n + 1;
+    let ones = s.ones + d;
     let mut at = HEADER_SIZE + RECORD_SIZE * count;
     let mut size = at;
     for i in 0..count {
-        let n = live_count(s.records[i]);
-        let t = turn_at(p, bytes, s, d, i, at, part);
-        size += MASS_SIZE * live_count(t);
-        at += MASS_SIZE * n;
+        let t = s.records[i];
+        let e = spending_at(p.allowances[i], p.delay, n);
+        let next = turn_at(bytes, at, t, p.thresholds[i], e, n, ones, part);
+        size += MASS_SIZE * live_count(next);
+        at += MASS_SIZE * live_count(t);
     }
     size
 }
@@ -97,23 +100,22 @@ fn turn_into(p: Plan, bytes: &[u8], s: State, d: u32, part: &mut [u64], lent: &m
         ⌝ }
 {
     let count = p.count as usize;
+    let n = s.n + 1;
+    let ones = s.ones + d;
     let mut at = HEADER_SIZE + RECORD_SIZE * count;
     let mut to = at;
     let mut records = s.records;
     for i in 0..count {
-        let n = live_count(s.records[i]);
-        let t = turn_at(p, bytes, s, d, i, at, part);
-        let m = live_count(t);
+        let t = s.records[i];
+        let e = spending_at(p.allowances[i], p.delay, n);
+        let next = turn_at(bytes, at, t, p.thresholds[i], e, n, ones, part);
+        let m = live_count(next);
         write_part(lent, to, m, part);
-        records[i] = t;
-        at += MASS_SIZE * n;
+        records[i] = next;
+        at += MASS_SIZE * live_count(t);
         to += MASS_SIZE * m;
     }
-    State {
-        n: s.n + 1,
-        ones: s.ones + d,
-        records: records,
-    }
+    State { n, ones, records }
 }
 
 // A draw that has been judged: 12, or the answer's number, with the new form in the lent bytes.
@@ -157,10 +159,14 @@ fn draw_with(p: Plan, bytes: &[u8], d: u32, part: &mut [u64], lent: &mut [u8]) -
         × (now (lent .exit) ≡ drawnOn 0 p (now (bytes .entry)) d (now (lent .entry)) .bytes)
         ⌝ }
 {
-    if !form_fits(p, bytes) {
+    if bytes.len() < HEADER_SIZE + RECORD_SIZE * p.count as usize {
         return 15;
     }
     let s = state_in(p, bytes);
+    let records = s.records;
+    if !form_fits(p, bytes, records) {
+        return 15;
+    }
     let refusal = draw_refusal(p, bytes, s, d, part);
     if refusal != 0 {
         return refusal;

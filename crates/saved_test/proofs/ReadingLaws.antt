@@ -25,15 +25,16 @@ use Rattle.little.specs.Little.{filled}
 use Rattle.little.proofs.FilledLaws.{filled-length, filled-over, filled-take}
 use Rattle.plan.specs.declared.Plan.{Plan}
 use Rattle.bucket_test.specs.declared.State.{State}
-use Rattle.plan.specs.Plan.{spendingOf, planRefusal}
+use Rattle.plan.specs.Plan.{countLimit, spendingOf, planRefusal}
 use Rattle.plan.proofs.AcceptedLaws.{accepted}
 use Rattle.bucket_test.specs.Words.{partAt, wordsFit}
-use Rattle.bucket_test.specs.Turn.{recordAt, recordSound, recordSoundAt}
+use Rattle.bucket_test.specs.Turn.{noRecord, recordAt, recordSound, recordSoundAt}
 use Rattle.bucket_test.specs.Draw.{stateSound, noState}
 use Rattle.saved_test.specs.declared.Loaded.{Loaded}
 use Rattle.saved_test.specs.Form.{massSize, recordOffset, formSize, liveCount, massesTo}
 use Rattle.saved_test.specs.Reading.{markOf, markKnown, recordFrom, recordIn, recordFits, massOffset, partIn, massesIn, headerFits, formFits, stateIn, wordsIn, readRefusal, loaded, wordsAfter}
 use Rattle.saved_test.proofs.AlikeLaws.{sound-by}
+use Rattle.saved_test.proofs.Judged.{masses-cong}
 use Rattle.saved_test.proofs.HeldLaws.{record-held, part-held}
 use Rattle.saved_test.proofs.BytesBack.{few-by, masses-within, fitting}
 
@@ -68,6 +69,15 @@ copy-more d s i h k =
       add-one i,
       take-suc s i 0 k,
     ) (sym (append-assoc (take i s) (getD s i 0 ∷ []) (drop (suc i) d)))
+
+-- ---- the records that bytes hold, as an array
+
+module _ (p : Plan) (bytes : List ℕ) (records : List Threshold) (are : records ≡ stateIn p bytes .records) (few : p .count ≤ countLimit) where
+  pub record-of : (i : ℕ) → i < p .count → getD records i noRecord ≡ recordIn bytes i
+  record-of i l = ap (λ (rs : List Threshold). getD rs i noRecord) are ∙ record-held p bytes few i l
+
+  pub masses-of-all : massesTo (λ i. getD records i noRecord) (p .count) ≡ massesIn p bytes
+  masses-of-all = masses-cong (λ i. getD records i noRecord) (recordIn bytes) (p .count) record-of
 
 -- ---- refusal 15, test by test
 

@@ -1,10 +1,14 @@
 // Marks by their codes, and how many masses a threshold has by its mark (saved 1, 3).
 ghost use mathlib.Core.Path.{_≡_};
-ghost use Prim.Native.Nat.{_<_, _^_};
-ghost use Rattle.saved_test.specs.Form.{liveCount, markCode, markStep};
+ghost use Prim.Native.Nat.{_*_, _^_, _≤_, _<_};
+ghost use lib.ListN.{getD};
+ghost use Rattle.plan.specs.Plan.{countLimit};
+ghost use Rattle.bucket_test.specs.Turn.{noRecord};
+ghost use Rattle.saved_test.specs.Form.{liveCount, massesTo, markCode, markStep};
 ghost use Rattle.saved_test.specs.Reading.{markOf, markKnown, countFits};
 use crate::signed::counts_between;
 use bucket_test::Threshold;
+use plan::COUNT_LIMIT;
 use walk::Mark;
 use walk::WIDE;
 
@@ -92,4 +96,17 @@ pub(crate) fn count_fits(t: Threshold) -> bool
         Mark::Above(_) => true,
         Mark::AtMost(_) => true,
     }
+}
+
+// The masses of so many thresholds together.
+pub(crate) fn masses_of(records: [Threshold; COUNT_LIMIT], count: usize) -> usize
+    requires { ⌜ count ≤ countLimit ⌝ }
+    ensures { λ r. ⌜ (r ≡ massesTo (λ i. getD records i noRecord) count) × (r ≤ 2 ^ 33 * count) ⌝ }
+{
+    let mut total: usize = 0;
+    for i in 0..count {
+        let t = records[i];
+        total += live_count(t);
+    }
+    total
 }

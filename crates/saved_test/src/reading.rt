@@ -2,7 +2,7 @@
 ghost use mathlib.Core.Path.{_≡_};
 ghost use mathlib.Core.Bool.{true, _&&_};
 ghost use mathlib.Core.List.{[], _∷_};
-ghost use Prim.Native.Nat.{ℕ, _+_, _*_, _^_, _≤_, _<_};
+ghost use Prim.Native.Nat.{ℕ, _+_, _*_, _≤_, _<_};
 ghost use lib.ListN.{length, replicate};
 ghost use Rattle.walk.specs.Units.{wide, horizonLimit};
 ghost use Rattle.plan.specs.Places.{eq?, allTo, unless, firstRefusal, overTo, joinTo};
@@ -35,10 +35,11 @@ use crate::marks::count_fits;
 use crate::marks::live_count;
 use crate::marks::mark_known;
 use crate::marks::mark_of;
+use crate::marks::masses_of;
 use crate::signed::signed_of;
 use bucket_test::State;
 use bucket_test::Threshold;
-use bucket_test::judging::sound_at;
+use bucket_test::judging::record_sound;
 use bucket_test::starting::no_walked;
 use bucket_test::starting::ten_of;
 use little::numbers::read_le;
@@ -50,6 +51,7 @@ use plan::rules::plan_refusal;
 use walk::WIDE;
 use walk::Walked;
 use walk::row::clear_from;
+use walk::spending::spending_at;
 use walk::starting::start_walked;
 
 // The record at an offset.
@@ -77,9 +79,9 @@ fn record_from(bytes: &[u8], at: usize) -> Threshold
     }
 }
 
-// The record at an offset has a known mark, and open boundaries that count as many masses as a part can hold.
-fn record_fits(bytes: &[u8], at: usize) -> bool
-    requires { ⌜ at + recordSize ≤ length (now bytes) ⌝ }
+// The record t at an offset has a known mark, and open boundaries that count as many masses as a part can hold.
+fn record_fits(bytes: &[u8], at: usize, t: Threshold) -> bool
+    requires { ⌜ (at + recordSize ≤ length (now bytes)) × (t ≡ recordFrom (now bytes) at) ⌝ }
     ensures { λ r. ⌜ r ≡ (markKnown (field 4 at (now (bytes .entry))) (field 4 (at + stepField) (now (bytes .entry)))
         && countFits (recordFrom (now (bytes .entry)) at .mark) (recordFrom (now (bytes .entry)) at .walked)) ⌝ }
 {
@@ -88,34 +90,22 @@ fn record_fits(bytes: &[u8], at: usize) -> bool
     if !mark_known(code, step) {
         return false;
     }
-    let t = record_from(bytes, at);
     count_fits(t)
 }
 
-// .. each of so many.
-fn records_fit(bytes: &[u8], count: usize) -> bool
-    requires { ⌜ (count ≤ countLimit) × (headerSize + recordSize * count ≤ length (now bytes)) ⌝ }
-    ensures { λ r. ⌜ r ≡ allTo count (recordFits (now (bytes .entry))) ⌝ }
+// .. each of the K.
+fn records_fit(p: Plan, bytes: &[u8], records: [Threshold; COUNT_LIMIT]) -> bool
+    requires { ⌜ (p .count ≤ countLimit) × (headerSize + recordSize * p .count ≤ length (now bytes)) × (records ≡ stateIn p (now bytes) .records) ⌝ }
+    ensures { λ r. ⌜ r ≡ allTo (p .count) (recordFits (now (bytes .entry))) ⌝ }
 {
+    let count = p.count as usize;
     for i in 0..count {
-        if !record_fits(bytes, HEADER_SIZE + RECORD_SIZE * i) {
+        let t = records[i];
+        if !record_fits(bytes, HEADER_SIZE + RECORD_SIZE * i, t) {
             return false;
         }
     }
     true
-}
-
-// The masses that the saved boundaries of so many records ask.
-fn masses_in(bytes: &[u8], count: usize) -> usize
-    requires { ⌜ (count ≤ countLimit) × (headerSize + recordSize * count ≤ length (now bytes)) ⌝ }
-    ensures { λ r. ⌜ (r ≡ massesTo (recordIn (now (bytes .entry))) count) × (r ≤ 2 ^ 33 * count) ⌝ }
-{
-    let mut total: usize = 0;
-    for i in 0..count {
-        let t = record_from(bytes, HEADER_SIZE + RECORD_SIZE * i);
-        total += live_count(t);
-    }
-    total
 }
 
 // The header's numbers but n and S.
@@ -151,27 +141,6 @@ fn header_fits(bytes: &[u8], count: usize, masses: usize, offset: usize, size: u
     read_le(bytes, MASS_SIZE_FIELD, 2) as usize == MASS_SIZE
 }
 
-// Refusal 15, of any bytes.
-pub fn form_fits(p: Plan, bytes: &[u8]) -> bool
-    requires { ⌜ p .count ≤ countLimit ⌝ }
-    ensures { λ r. ⌜ r ≡ formFits p (now (bytes .entry)) ⌝ }
-{
-    let count = p.count as usize;
-    let offset = HEADER_SIZE + RECORD_SIZE * count;
-    if bytes.len() < offset {
-        return false;
-    }
-    let masses = masses_in(bytes, count);
-    let size = offset + MASS_SIZE * masses;
-    if bytes.len() != size {
-        return false;
-    }
-    if !header_fits(bytes, count, masses, offset, size) {
-        return false;
-    }
-    records_fit(bytes, count)
-}
-
 // So many records, and those of a beginning behind them.
 fn records_in(bytes: &[u8], count: usize) -> [Threshold; COUNT_LIMIT]
     requires { ⌜ (count ≤ countLimit) × (headerSize + recordSize * count ≤ length (now bytes)) ⌝ }
@@ -200,6 +169,24 @@ pub fn state_in(p: Plan, bytes: &[u8]) -> State
         ones: ones,
         records: records,
     }
+}
+
+// Refusal 15, of bytes that are long enough for K records, with the records that they hold.
+pub fn form_fits(p: Plan, bytes: &[u8], records: [Threshold; COUNT_LIMIT]) -> bool
+    requires { ⌜ (p .count ≤ countLimit) × (headerSize + recordSize * p .count ≤ length (now bytes)) × (records ≡ stateIn p (now bytes) .records) ⌝ }
+    ensures { λ r. ⌜ r ≡ formFits p (now (bytes .entry)) ⌝ }
+{
+    let count = p.count as usize;
+    let offset = HEADER_SIZE + RECORD_SIZE * count;
+    let masses = masses_of(records, count);
+    let size = offset + MASS_SIZE * masses;
+    if bytes.len() != size {
+        return false;
+    }
+    if !header_fits(bytes, count, masses, offset, size) {
+        return false;
+    }
+    records_fit(p, bytes, records)
 }
 
 // So many masses from an offset on, at the front of a part; the words behind them stay.
@@ -244,9 +231,11 @@ fn parts_sound(p: Plan, bytes: &[u8], s: State, part: &mut [u64]) -> bool
     let count = p.count as usize;
     let mut at = HEADER_SIZE + RECORD_SIZE * count;
     for i in 0..count {
-        let n = live_count(s.records[i]);
+        let t = s.records[i];
+        let n = live_count(t);
         front_in(bytes, at, n, part);
-        if !sound_at(p, s, i, &part[..]) {
+        let e = spending_at(p.allowances[i], p.delay, s.n);
+        if !record_sound(t, &part[..], e, s.n, s.ones) {
             return false;
         }
         at += MASS_SIZE * n;
@@ -288,7 +277,12 @@ fn form_refusal(p: Plan, bytes: &[u8], words: usize) -> u32
     if words != WIDE * p.count as usize {
         return 8;
     }
-    if !form_fits(p, bytes) {
+    if bytes.len() < HEADER_SIZE + RECORD_SIZE * p.count as usize {
+        return 15;
+    }
+    let s = state_in(p, bytes);
+    let records = s.records;
+    if !form_fits(p, bytes, records) {
         return 15;
     }
     0

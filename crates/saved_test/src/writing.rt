@@ -26,6 +26,7 @@ use crate::form::SIZE_FIELD;
 use crate::form::UNDER_FIELD;
 use crate::marks::code_of;
 use crate::marks::live_count;
+use crate::marks::masses_of;
 use crate::marks::step_of;
 use crate::signed::bits_of;
 use bucket_test::State;
@@ -63,19 +64,6 @@ fn write_records(bytes: &mut [u8], count: usize, records: [Threshold; COUNT_LIMI
         let t = records[i];
         write_record(bytes, HEADER_SIZE + RECORD_SIZE * i, t);
     }
-}
-
-// The masses of so many thresholds together.
-pub fn masses_of(records: [Threshold; COUNT_LIMIT], count: usize) -> usize
-    requires { ⌜ count ≤ countLimit ⌝ }
-    ensures { λ r. ⌜ (r ≡ massesTo (λ i. getD records i noRecord) count) × (r ≤ 2 ^ 33 * count) ⌝ }
-{
-    let mut total: usize = 0;
-    for i in 0..count {
-        let t = records[i];
-        total += live_count(t);
-    }
-    total
 }
 
 // The first masses of a part.

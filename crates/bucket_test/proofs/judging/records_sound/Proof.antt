@@ -6,6 +6,7 @@ use Prim.Native.Nat.{ℕ, _*_, _-_, _≤_}
 use native.Mathlib.Omega.{arith}
 use lib.ListN.{length}
 use Rattle.walk.specs.Units.{wide}
+use Rattle.plan.specs.Plan.{spendingOf}
 use Rattle.bucket_test.specs.Turn.{recordAt, recordSoundAt}
 use Rattle.plan.specs.declared.Plan.{Plan}
 use Rattle.bucket_test.specs.declared.State.{State}
@@ -20,52 +21,70 @@ abbrev passes : Plan → State → List ℕ → ℕ → Bool
 passes p s ws i = recordSoundAt p ws (s .n) (s .ones) i (recordAt s i)
 
 abbrev Inv-loop : tie.InvT-loop
-Inv-loop p s words count i₀ i = (count ≤ 10) × (length words ≡ 769 * count) × Sought false (passes p s words) count i
+Inv-loop words p s count i₀ i = (count ≤ 10) × (length words ≡ 769 * count) × Sought false (passes p s words) count i
 
 abbrev μ-loop : tie.MeasureT-loop
-μ-loop p s words count i₀ i = count - i
+μ-loop words p s count i₀ i = count - i
 
 cast-count : tie.Need-cast-count Inv-loop μ-loop
 cast-count c = search needs
 
 loop-holds : tie.Need-loop-holds Inv-loop μ-loop
 unfolding wide
-loop-holds c =
-    let s = c .before .before in
-    (accepted (s .args .p) .0 (s .pre .0) .count-range .1, s .pre .1, sought-none false _)
+loop-holds c = (accepted (c .before .args .t1) .0 (c .before .pre .0) .count-range .1, c .before .pre .1, sought-none false _)
+
+mul-t : tie.Need-mul-t Inv-loop μ-loop
+mul-t c = search needs
+
+element-copy-out-t : tie.Need-element-copy-out-t Inv-loop μ-loop
+element-copy-out-t c = search needs
+
+mul-spending-at : tie.Need-mul-spending-at Inv-loop μ-loop
+mul-spending-at c = search needs
+
+element-copy-out-spending-at : tie.Need-element-copy-out-spending-at Inv-loop μ-loop
+element-copy-out-spending-at c = search needs
+
+spending-at-requires : tie.Need-spending-at-requires Inv-loop μ-loop
+spending-at-requires c κs =
+    let b = c .before .before in
+    let h = b .before .before .before .pre in
+    let ok = accepted (b .before .before .before .args .t1) .0 (h .0) in
+    (ok .allowance-range (b .before .loop .i) (b .loop-test .taken) .1, ok .delay-range .0, omega (arith, h .2))
 
 mul-at : tie.Need-mul-at Inv-loop μ-loop
 mul-at c = search needs
 
-add-sound-at : tie.Need-add-sound-at Inv-loop μ-loop
-add-sound-at c = search needs
+add-record-sound : tie.Need-add-record-sound Inv-loop μ-loop
+add-record-sound c = search needs
 
-mul-sound-at : tie.Need-mul-sound-at Inv-loop μ-loop
-mul-sound-at c = search needs
+mul-record-sound : tie.Need-mul-record-sound Inv-loop μ-loop
+mul-record-sound c = search needs
 
-sub-sound-at : tie.Need-sub-sound-at Inv-loop μ-loop
-sub-sound-at c = search needs
+sub-record-sound : tie.Need-sub-record-sound Inv-loop μ-loop
+sub-record-sound c = search needs
 
-part-sound-at-start : tie.Need-part-sound-at-start Inv-loop μ-loop
-part-sound-at-start c = search needs
+part-record-sound-start : tie.Need-part-record-sound-start Inv-loop μ-loop
+part-record-sound-start c = search needs
 
-part-sound-at-end : tie.Need-part-sound-at-end Inv-loop μ-loop
-part-sound-at-end c = search needs
+part-record-sound-end : tie.Need-part-record-sound-end Inv-loop μ-loop
+part-record-sound-end c = search needs
 
-sound-at-requires : tie.Need-sound-at-requires Inv-loop μ-loop
-sound-at-requires c κs = search needs
+record-sound-requires : tie.Need-record-sound-requires Inv-loop μ-loop
+record-sound-requires c κs = search needs
 
-judged : (c : tie.After-sound-at Inv-loop μ-loop)
-    → let l = c .before .before .before in
-    let a = l .before .before .before .args in
-    c .sound-at .result ≡ passes (a .p) (a .s) (a .words .now) (l .loop .i)
+judged : (c : tie.After-record-sound Inv-loop μ-loop)
+    → let l = c .before .before .before .before .before .before in
+    let a = l .before .before .args in
+    c .record-sound .result ≡ passes (a .t1) (a .t2) (a .words .now) (l .loop .i)
+unfolding spendingOf
 judged c =
-    let l = c .before .before .before in
-    c .sound-at .ensures ∙ rw (part-lent (l .loop .i) (l .before .before .before .args .words .now))
+    let l = c .before .before .before .before .before .before in
+    c .record-sound .ensures ∙ rw (c .before .before .spending-at .ensures, part-lent (l .loop .i) (l .before .before .args .words .now))
 
 returns : tie.Need-returns Inv-loop μ-loop
 returns c =
-    let b = c .before .before .before in
+    let b = c .before .before .before .before .before .before in
     sought-here false _ (b .before .loop .inv .2) (b .loop-test .taken) (failed (judged (c .before)) (c .if1 .taken))
 
 add-i : tie.Need-add-i Inv-loop μ-loop
@@ -76,7 +95,7 @@ loop-less c = search needs
 
 loop-again : tie.Need-loop-again Inv-loop μ-loop
 loop-again c =
-    let b = c .before .before .before in
+    let b = c .before .before .before .before .before .before in
     let l = b .before .loop in
     (l .inv .0, l .inv .1, sought-next false _ (l .inv .2) (b .loop-test .taken) (passed (judged (c .before)) (c .if1 .left)))
 
@@ -91,13 +110,18 @@ records-sound-spec =
     μ-loop
     cast-count
     loop-holds
+    mul-t
+    element-copy-out-t
+    mul-spending-at
+    element-copy-out-spending-at
+    spending-at-requires
     mul-at
-    add-sound-at
-    mul-sound-at
-    sub-sound-at
-    part-sound-at-start
-    part-sound-at-end
-    sound-at-requires
+    add-record-sound
+    mul-record-sound
+    sub-record-sound
+    part-record-sound-start
+    part-record-sound-end
+    record-sound-requires
     returns
     add-i
     loop-less

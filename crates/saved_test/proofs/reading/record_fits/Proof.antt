@@ -1,3 +1,4 @@
+-- A known mark, then boundaries that fit.
 use Prim.Native.Nat.{_+_}
 use Rattle.little.specs.Little.{field}
 use Rattle.saved_test.specs.Reading.{markKnown, countFits}
@@ -7,7 +8,6 @@ use mathlib.Core.Path.{_≡_, sym, ap, _∙_}
 use borrow.Author.Needs.{needs}
 use Rattle.saved_test.proofs.reading.record_fits.Statement.{statement}
 use Rattle.saved_test.proofs.reading.record_fits.Tie as tie
-use Rattle.saved_test.proofs.reading.record_fits.Reads as reads
 
 read-u32-requires : tie.Need-read-u32-requires
 read-u32-requires c κs = search needs
@@ -28,14 +28,12 @@ known c = c .mark-known .ensures ∙ rw (c .before .read-u322 .ensures .0, c .be
 returns : tie.Need-returns
 returns c = rw (failed (known (c .before)) (c .if1 .taken))
 
-record-from-requires : tie.Need-record-from-requires
-record-from-requires c κs = search needs
-
 count-fits-requires : tie.Need-count-fits-requires
 count-fits-requires c κs = search needs
 
 returns-2 : tie.Need-returns-2
-returns-2 c = rw (passed (known (c .before .before .before)) (c .before .before .if1 .left)) (c .count-fits .ensures ∙ ap (λ (t : Threshold). countFits (t .mark) (t .walked)) (c .before .record-from .ensures))
+returns-2 c = rw (passed (known (c .before .before)) (c .before .if1 .left))
+    (c .count-fits .ensures ∙ ap (λ (t : Threshold). countFits (t .mark) (t .walked)) (c .before .before .before .before .before .before .pre .1))
 
 pub record-fits-spec : {M : Type 1} → statement M
 record-fits-spec =
@@ -46,6 +44,5 @@ record-fits-spec =
     read-u32-requires-2
     mark-known-requires
     returns
-    record-from-requires
     count-fits-requires
     returns-2)

@@ -6,8 +6,8 @@ use native.Mathlib.Omega.{arith}
 use Prim.Native.Nat.{ℕ, suc, _+_, _≤_, _*_, _-_}
 use mathlib.Core.Path.{_≡_, refl, sym, ap, _∙_}
 use borrow.Author.Needs.{needs}
-use Rattle.saved_test.proofs.writing.masses_of.Statement.{statement}
-use Rattle.saved_test.proofs.writing.masses_of.Tie as tie
+use Rattle.saved_test.proofs.marks.masses_of.Statement.{statement}
+use Rattle.saved_test.proofs.marks.masses_of.Tie as tie
 
 abbrev Inv-loop : tie.InvT-loop
 Inv-loop count records total₀ i₀ total i = (i ≤ count) × (total ≡ massesTo (λ k. getD records k noRecord) i) × (total ≤ 8589934592 * i)
