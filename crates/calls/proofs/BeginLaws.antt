@@ -1,27 +1,24 @@
 -- The form of a beginning, and calls on plan bytes (specs/Calls).
 use mathlib.Core.Path.{_≡_, refl, sym, ap, _∙_}
-use mathlib.Core.Bool.{true, false}
 use mathlib.Core.List.{List, [], _∷_, _++_}
 use Prim.Native.Nat.{ℕ, zero, suc, _+_, _*_, _≤_, _<_}
 use native.Mathlib.Omega.{arith}
-use lib.ListN.{length, drop, getD, replicate, length-replicate, getD-replicate}
-use Rattle.walk.specs.Numbers.{le?}
+use lib.ListN.{length, length-replicate, getD-replicate}
 use Rattle.walk.specs.Units.{M, wide}
 use Rattle.walk.specs.Walk.{below}
 use Rattle.walk.specs.Row.{startRow}
 use Rattle.walk.specs.Record.{recordOf, padded, startWalked, startPart}
-use Rattle.walk.proofs.Tests.{le?-sound, le?-complete, le?-fails}
+use Rattle.walk.proofs.Tests.{le?-complete, le?-fails}
 use Rattle.walk.proofs.SoundnessLaws.{padded-length}
-use Rattle.plan.specs.Places.{firstRefusal, joinTo}
+use Rattle.plan.specs.Places.{joinTo}
 use Rattle.plan.specs.Plan.{countLimit, planRefusal}
 use Rattle.plan.specs.declared.Plan.{Plan}
-use Rattle.plan.proofs.PlaceLaws.{first-one}
 use Rattle.plan.proofs.PlaceLists.{join-cong}
 use Rattle.plan.proofs.AcceptedLaws.{accepted}
 use Rattle.bucket_test.specs.Words.{partAt}
 use Rattle.bucket_test.specs.Turn.{openRecord, startRecord, noRecord, recordAt}
 use Rattle.bucket_test.specs.Answers.{answerOf}
-use Rattle.bucket_test.specs.Draw.{Outcome, tenOf, startState, startWords, begun}
+use Rattle.bucket_test.specs.Draw.{tenOf, startState, startWords, begun}
 use Rattle.bucket_test.specs.declared.State.{State}
 use Rattle.walk.specs.declared.Walked.{Walked}
 use Rattle.bucket_test.proofs.PartLaws.{words-say, join-part}
@@ -29,9 +26,9 @@ use Rattle.bucket_test.proofs.DrawingLaws.{begun-0}
 use Rattle.little.specs.Little.{toLE, putAt}
 use Rattle.stored_plan.specs.Reading.{decoded}
 use Rattle.stored_plan.specs.declared.Read.{Read}
-use Rattle.saved_test.specs.Form.{massSize, recordOffset, formSize, countsBetween, liveCount, massesTo, massBytes, savedMasses, savedSize, header, recordEntries, massEntries}
+use Rattle.saved_test.specs.Form.{massSize, recordOffset, formSize, countsBetween, liveCount, massesTo, massBytes, savedSize, header, recordEntries, massEntries}
 use Rattle.saved_test.proofs.WritingLaws.{form-put}
-use Rattle.calls.specs.Calls.{answerNumber, calledBy, ownWords, begunOn, drawnOn, calledBegin, calledDraw}
+use Rattle.calls.specs.Calls.{answerNumber, ownWords, begunOn, drawnOn, calledBegin, calledDraw}
 use Rattle.calls.proofs.PlanRead.{plan-read}
 
 -- one mass for each threshold, the whole

@@ -1,11 +1,11 @@
 -- What the calls return and leave, way out by way out (specs/Calls).
 use mathlib.Core.Path.{_≡_, refl, sym, ap, _∙_}
-use mathlib.Core.Bool.{Bool, true, false, not}
+use mathlib.Core.Bool.{Bool, true, false}
 use mathlib.Core.Logic.{_⊎_, inl, inr}
 use mathlib.Core.List.{List, [], _∷_, _++_}
 use Prim.Native.Nat.{ℕ, zero, suc, _+_, _*_, _≤_, _<_}
 use native.Mathlib.Omega.{arith}
-use lib.ListN.{length, drop}
+use lib.ListN.{length}
 use Rattle.walk.specs.Numbers.{le?, lt?}
 use Rattle.walk.specs.Units.{wide}
 use Rattle.walk.proofs.Tests.{le?-sound, le?-complete, le?-fails}
@@ -24,13 +24,13 @@ use Rattle.bucket_test.proofs.PartLaws.{words-say}
 use Rattle.bucket_test.proofs.AnsweringLaws.{rule-with}
 use Rattle.bucket_test.proofs.DrawingLaws.{drawn-by}
 use Rattle.little.specs.Little.{putAt}
-use Rattle.saved_test.specs.Form.{headerSize, recordSize, massSize, recordOffset, formSize, formLimit, liveCount, massesTo, savedSize, savedForm, header, recordEntries, massEntries}
+use Rattle.saved_test.specs.Form.{massSize, recordOffset, formSize, formLimit, massesTo, savedSize, header, recordEntries, massEntries}
 use Rattle.saved_test.specs.Reading.{recordIn, stateIn, wordsIn, formFits}
 use Rattle.saved_test.proofs.Judged.{masses-few}
 use Rattle.saved_test.proofs.HeldLaws.{record-held, words-held}
 use Rattle.saved_test.proofs.ReadingLaws.{form-known, form-sized, part-few}
 use Rattle.saved_test.proofs.WritingLaws.{form-put}
-use Rattle.calls.specs.Calls.{answerNumber, Called, roomRefusal, calledBy, putBy, drawnOn, Judged}
+use Rattle.calls.specs.Calls.{answerNumber, roomRefusal, calledBy, putBy, drawnOn, Judged}
 use Rattle.calls.proofs.TurnLaws.{few, grows}
 
 -- ---- numbers of answers

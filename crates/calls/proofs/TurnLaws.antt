@@ -15,7 +15,7 @@ use Rattle.walk.specs.Spending.{IsSpending}
 use Rattle.walk.specs.Walk.{below}
 use Rattle.walk.specs.Row.{Row, upper, stepRow}
 use Rattle.walk.specs.Record.{firstAbove, rowOf, recordOf, padded, isWide}
-use Rattle.walk.specs.Soundness.{isSound, Steppable}
+use Rattle.walk.specs.Soundness.{isSound}
 use Rattle.walk.specs.declared.Mark.{Mark}
 use Rattle.walk.specs.declared.Mark.the-variants.{Open, Above, AtMost}
 use Rattle.walk.specs.declared.Walked.{Walked}
@@ -30,7 +30,7 @@ use Rattle.plan.proofs.AcceptedLaws.{accepted, threshold-ok, spends}
 use Rattle.bucket_test.specs.Words.{partAt, wordsFit}
 use Rattle.bucket_test.specs.Turn.{noRecord, recordAt, recordTurn, wideOpen, walkedOn, recordSound, turnRecord, turnPart, MayTurn}
 use Rattle.bucket_test.specs.Answers.{answerOf, isEnding}
-use Rattle.bucket_test.specs.Draw.{stateSound, drawRefusalOver, drawRefusal, nextState, nextWords}
+use Rattle.bucket_test.specs.Draw.{stateSound, drawRefusalOver, nextState, nextWords}
 use Rattle.bucket_test.specs.declared.Threshold.{Threshold}
 use Rattle.bucket_test.specs.declared.State.{State}
 use Rattle.bucket_test.proofs.TurningLaws.{part-length, record-put}

@@ -1,26 +1,25 @@
 -- Demand 3 over power cuts (specs/Saves).
 use mathlib.Core.Path.{_≡_, refl, sym, ap, _∙_}
-use mathlib.Core.Bool.{Bool, true, false}
+use mathlib.Core.Bool.{true}
 use mathlib.Core.Logic.{_⊎_, inl, inr, ⊎-elim}
 use mathlib.Core.List.{List, [], _∷_}
-use Prim.Native.Nat.{ℕ, zero, suc, _+_, _*_, _-_, _^_, _≤_, _<_}
+use Prim.Native.Nat.{ℕ, zero, suc, _*_, _-_, _≤_, _<_}
 use native.Mathlib.Omega.{arith}
 use lib.IntN.{ℤ}
-use lib.ListN.{length, getD, replicate, length-replicate, getD-replicate}
+use lib.ListN.{length, getD, replicate}
 use lib.Seq.{ext-getD}
-use Rattle.walk.specs.Units.{wide, M, horizonLimit, allowanceLimit}
-use Rattle.walk.specs.Walk.{Walk, below, lower, walk, firstAt, upperAt}
-use Rattle.walk.specs.Strings.{Draws, Upper, Lower, lastStep}
+use Rattle.walk.specs.Units.{wide, M, horizonLimit}
+use Rattle.walk.specs.Walk.{lower, walk, firstAt, upperAt}
+use Rattle.walk.specs.Strings.{Upper, Lower, lastStep}
 use Rattle.walk.specs.declared.Mark.{Mark}
 use Rattle.walk.specs.declared.Mark.the-variants.{Open, Above, AtMost}
-use Rattle.walk.specs.declared.Walked.{Walked}
 use Rattle.plan.specs.Places.{overTo}
-use Rattle.plan.specs.Plan.{thresholdAt, spendingOf, planRefusal, Accepted}
+use Rattle.plan.specs.Plan.{thresholdAt, spendingOf, Accepted}
 use Rattle.bucket_test.specs.Words.{partAt, Stands}
 use Rattle.bucket_test.specs.Turn.{recordAt}
 use Rattle.bucket_test.specs.Answers.{answerOf, refusalOf}
 use Rattle.bucket_choice.specs.Choice.{chosenBucket}
-use Rattle.bucket_test.specs.Draw.{Outcome, begun, drawRefusal, drawnBy, drawn, stateSound}
+use Rattle.bucket_test.specs.Draw.{Outcome, drawRefusal, drawnBy, drawn, stateSound}
 use Rattle.bucket_test.specs.Carried.{carriedOver, carried, hasEnded, taken}
 use Rattle.bucket_test.specs.Demand3.{AnswersDraw, Answered, Demand3}
 use Rattle.plan.specs.declared.Plan.{Plan}
@@ -36,10 +35,9 @@ use Rattle.plan.proofs.PlaceLaws.{le-or-lt}
 use Rattle.bucket_test.proofs.PartLaws.{words-say}
 use Rattle.little.specs.Little.{filled}
 use Rattle.little.proofs.FilledLaws.{filled-length, filled-get, filled-past}
-use Rattle.saved_test.specs.Form.{countsBetween, liveBy, liveCount, markStep, savedForm}
+use Rattle.saved_test.specs.Form.{countsBetween, liveBy, markStep, savedForm}
 use Rattle.saved_test.specs.Alike.{Alike}
-use Rattle.saved_test.specs.Writing.{saveRefusal}
-use Rattle.saved_test.specs.Reading.{stateIn, wordsIn, readRefusal}
+use Rattle.saved_test.specs.Reading.{stateIn, wordsIn}
 use Rattle.saved_test.specs.RoundTrip.{Typed, Savable}
 use Rattle.resumed_test.specs.Saves.{Move, Draw, Save, drawsOf, Lends, reloadRefusal, reloadedBy, reloaded, moved, AnsweredOver, Recorded, lastWalk, stateNow, partNow, Demand3Saved, Demand3SavedTheorem}
 use Rattle.saved_test.proofs.Judged.{save-says, gap-below, in-time, known-at}

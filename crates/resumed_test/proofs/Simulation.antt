@@ -1,37 +1,23 @@
 -- Tests that are alike are refused alike, answer alike, and are alike after a draw (specs/EverAfter: Simulation).
 use mathlib.Core.Path.{_≡_, refl, sym, ap, _∙_}
-use mathlib.Core.Bool.{Bool, true, false, _&&_}
-use mathlib.Core.Logic.{_⊎_, inl, inr, ⊎-elim}
+use mathlib.Core.Logic.{_⊎_, inl, inr}
 use mathlib.Core.List.{List, [], _∷_}
-use Prim.Native.Nat.{ℕ, zero, suc, _+_, _*_, _-_, _≤_, _<_}
-use native.Mathlib.Omega.{arith}
-use lib.IntN.{ℤ, pos, negsuc}
-use lib.ListN.{length, take, drop, getD, replicate}
-use lib.Seq.{take-take}
-use Rattle.walk.specs.Numbers.{le?, allUpTo}
+use Prim.Native.Nat.{ℕ, zero, suc, _+_, _<_}
+use lib.ListN.{take, replicate}
 use Rattle.walk.specs.Units.{wide}
-use Rattle.walk.specs.Row.{Row, stepRow, total}
-use Rattle.walk.specs.Record.{firstAbove, rowOf, padded}
-use Rattle.walk.specs.Soundness.{isSound}
-use Rattle.walk.specs.Strings.{judged}
 use Rattle.walk.specs.declared.Mark.{Mark}
 use Rattle.walk.specs.declared.Mark.the-variants.{Open, Above, AtMost}
-use Rattle.walk.specs.declared.Walked.{Walked}
-use Rattle.plan.specs.Places.{allTo}
-use Rattle.plan.specs.Plan.{thresholdAt, spendingOf, planRefusal}
-use Rattle.bucket_test.specs.Words.{partAt, wordsFit}
-use Rattle.bucket_test.specs.Turn.{recordAt, turnRecord, turnPart, recordSound, recordTurn, partTurn, recordSoundAt, wideOpen}
-use Rattle.bucket_test.specs.Answers.{lowOf, highOf, anyWide, answerBy, answerOf, isEnding}
+use Rattle.plan.specs.Plan.{thresholdAt, spendingOf}
+use Rattle.bucket_test.specs.Words.{partAt}
+use Rattle.bucket_test.specs.Turn.{recordAt, turnRecord, turnPart, recordTurn, partTurn}
 use Rattle.bucket_choice.specs.Choice.{chosenBucket}
 use Rattle.bucket_test.specs.Draw.{Outcome, drawRefusalOver, drawRefusal, nextState, nextWords, drawnBy, drawn}
 use Rattle.plan.specs.declared.Plan.{Plan}
 use Rattle.bucket_test.specs.declared.Threshold.{Threshold}
 use Rattle.bucket_test.specs.declared.State.{State}
-use Rattle.plan.proofs.PlaceLaws.{all-cong, any-cong, largest-cong, smallest-cong}
-use Rattle.bucket_test.proofs.PartLaws.{words-say}
 use Rattle.bucket_test.proofs.OneStep.{drawn-says, record-next, part-next, one-step-holds}
 use Rattle.bucket_test.proofs.DrawingLaws.{drawn-by}
-use Rattle.saved_test.specs.Form.{liveBy, liveCount}
+use Rattle.saved_test.specs.Form.{liveBy}
 use Rattle.saved_test.specs.Alike.{liveMasses, Alike}
 use Rattle.saved_test.proofs.AlikeLaws.{row-same, answer-same, words-same, sound-same}
 use Rattle.resumed_test.specs.EverAfter.{drawnAfter, AlikeAfter, Simulation}

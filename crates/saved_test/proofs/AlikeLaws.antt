@@ -1,37 +1,28 @@
 -- Tests that are alike are judged alike by the answer rule, 8 and 11 (specs/Alike).
 use mathlib.Core.Path.{_≡_, refl, sym, ap, _∙_}
-use mathlib.Core.Bool.{Bool, true, false, _&&_}
-use mathlib.Core.Logic.{_⊎_, inl, inr, ⊎-elim}
-use mathlib.Core.List.{List, [], _∷_}
-use Prim.Native.Nat.{ℕ, zero, suc, _+_, _*_, _-_, _≤_, _<_}
+use mathlib.Core.List.{List}
+use Prim.Native.Nat.{ℕ, _-_, _≤_, _<_}
 use native.Mathlib.Omega.{arith}
 use lib.IntN.{ℤ, pos, negsuc}
-use lib.ListN.{length, take, drop, getD, replicate}
+use lib.ListN.{take}
 use lib.Seq.{take-take}
-use Rattle.walk.specs.Numbers.{le?, allUpTo}
-use Rattle.walk.specs.Units.{wide}
-use Rattle.walk.specs.Row.{Row, stepRow, total}
-use Rattle.walk.specs.Record.{firstAbove, rowOf, padded}
+use Rattle.walk.specs.Record.{firstAbove, rowOf}
 use Rattle.walk.specs.Soundness.{isSound}
-use Rattle.walk.specs.Strings.{judged}
 use Rattle.walk.specs.declared.Mark.{Mark}
 use Rattle.walk.specs.declared.Mark.the-variants.{Open, Above, AtMost}
 use Rattle.walk.specs.declared.Walked.{Walked}
-use Rattle.plan.specs.Places.{allTo}
-use Rattle.plan.specs.Plan.{thresholdAt, spendingOf, planRefusal}
+use Rattle.plan.specs.Plan.{spendingOf}
 use Rattle.bucket_test.specs.Words.{partAt, wordsFit}
-use Rattle.bucket_test.specs.Turn.{recordAt, turnRecord, turnPart, recordSound, recordTurn, partTurn, recordSoundAt, wideOpen}
+use Rattle.bucket_test.specs.Turn.{recordAt, recordSound, recordSoundAt}
 use Rattle.bucket_test.specs.Answers.{lowOf, highOf, anyWide, answerBy, answerOver, answerOf}
-use Rattle.bucket_test.specs.Draw.{Outcome, stateSound, drawRefusal, nextState, nextWords, drawnBy, drawn}
+use Rattle.bucket_test.specs.Draw.{stateSound}
 use Rattle.plan.specs.declared.Plan.{Plan}
 use Rattle.bucket_test.specs.declared.Threshold.{Threshold}
 use Rattle.bucket_test.specs.declared.State.{State}
 use Rattle.plan.proofs.PlaceLaws.{all-cong, any-cong, largest-cong, smallest-cong}
 use Rattle.bucket_test.proofs.PartLaws.{words-say}
-use Rattle.bucket_test.proofs.OneStep.{drawn-says, record-next, part-next, one-step-holds}
-use Rattle.bucket_test.proofs.DrawingLaws.{drawn-by}
-use Rattle.saved_test.specs.Form.{countsBetween, liveBy, liveCount}
-use Rattle.saved_test.specs.Alike.{liveMasses, Alike}
+use Rattle.saved_test.specs.Form.{countsBetween, liveBy}
+use Rattle.saved_test.specs.Alike.{Alike}
 
 -- ---- one threshold
 

@@ -1,41 +1,38 @@
 -- Accepted bytes hold a test that a writing accepts, and are its form (specs/RoundTrip: BytesBack).
 use mathlib.Core.Path.{_≡_, refl, sym, ap, _∙_}
-use mathlib.Core.Bool.{Bool, true, false, _&&_, _||_}
+use mathlib.Core.Bool.{Bool, true}
 use mathlib.Core.List.{List, [], _∷_, _++_}
-use mathlib.Core.Logic.{_↔_, _⊎_, inl, inr, ⊎-elim}
+use mathlib.Core.Logic.{_↔_, _⊎_, ⊎-elim}
 use Prim.Native.Nat.{ℕ, zero, suc, _+_, _*_, _^_, _≤_, _<_}
 use native.Mathlib.Nat.{mul-zero, mul-suc, pow-suc, eq-or-lt-of-le}
 use native.Mathlib.Omega.{arith}
-use lib.ListN.{length, take, drop, getD, replicate, length-replicate}
+use lib.ListN.{length, take, drop, replicate}
 use lib.Seq.{drop-drop, take-add, take-all, getD-drop}
 use mir.Syntax.{w32}
-use mir.Val.{Fits, SFits, toZ, ofZ}
+use mir.Val.{toZ, ofZ}
 use mir.ValLaws.{toZ-fits, ofZ-toZ}
 use Rattle.walk.specs.Units.{wide}
 use Rattle.walk.specs.declared.Mark.{Mark}
 use Rattle.walk.specs.declared.Mark.the-variants.{Open, Above, AtMost}
 use Rattle.walk.specs.declared.Walked.{Walked}
-use Rattle.walk.proofs.Tests.{and-true}
-use Rattle.plan.specs.Places.{eq?, allTo, unless, firstRefusal, overTo, joinTo}
-use Rattle.plan.specs.Plan.{countLimit, planRefusal, Accepted}
+use Rattle.plan.specs.Places.{unless, joinTo}
+use Rattle.plan.specs.Plan.{planRefusal, Accepted}
 use Rattle.bucket_test.specs.Words.{partAt, wordsFit}
-use Rattle.bucket_test.specs.Turn.{startRecord, noRecord, recordAt}
+use Rattle.bucket_test.specs.Turn.{recordAt}
 use Rattle.bucket_test.specs.Draw.{stateSound}
 use Rattle.plan.specs.declared.Plan.{Plan}
 use Rattle.bucket_test.specs.declared.Threshold.{Threshold}
-use Rattle.bucket_test.specs.declared.State.{State}
 use Rattle.plan.proofs.PlaceLaws.{both, either, eq-reads, all-say, within-reads, none-both, none-says, last-says}
-use Rattle.plan.proofs.PlaceLists.{over-get, join-cong, join-length}
-use Rattle.bucket_test.proofs.PartLaws.{words-say, join-part}
+use Rattle.plan.proofs.PlaceLists.{join-cong}
+use Rattle.bucket_test.proofs.PartLaws.{words-say}
 use Rattle.plan.proofs.AcceptedLaws.{accepted}
 use Rattle.little.specs.Little.{toLE, fromLE, field, column, Bytes}
 use Rattle.little.specs.Little.{filled}
-use Rattle.little.proofs.LittleLaws.{to-field, more-lt}
-use Rattle.little.proofs.FilledLaws.{filled-length, filled-get}
-use Rattle.saved_test.specs.Form.{headerSize, recordSize, massSize, recordOffset, formSize, countsBetween, liveBy, liveCount, massesTo, markCode, markStep, recordBytes, massBytes, savedMasses, savedSize, header, recordEntries, massEntries, savedForm}
-use Rattle.saved_test.specs.Writing.{saveRefusal}
+use Rattle.little.proofs.LittleLaws.{to-field}
+use Rattle.little.proofs.FilledLaws.{filled-get}
+use Rattle.saved_test.specs.Form.{headerSize, recordSize, massSize, recordOffset, formSize, countsBetween, liveBy, liveCount, massesTo, markCode, markStep, recordBytes, massBytes, savedMasses, header, recordEntries, massEntries, savedForm}
 use Rattle.saved_test.specs.Reading.{markOf, markKnown, countFits, recordFrom, recordIn, recordFits, massOffset, partIn, stateIn, wordsIn, massesIn, headerFits, formFits, readRefusal}
-use Rattle.saved_test.specs.RoundTrip.{Typed, Savable, BytesBack}
+use Rattle.saved_test.specs.RoundTrip.{Typed, BytesBack}
 use Rattle.saved_test.proofs.Judged.{save-says, masses-cong}
 use Rattle.saved_test.proofs.HeldLaws.{record-held, part-held, words-held}
 

@@ -1,11 +1,10 @@
 -- The fields of a saved form, of a test whose numbers have their widths (specs/Form, specs/Reading).
-use mathlib.Core.Path.{_≡_, refl, sym, ap, _∙_}
-use mathlib.Core.List.{List, [], _∷_, _++_, append-assoc, append-nil}
-use Prim.Native.Nat.{ℕ, zero, suc, _+_, _*_, _^_, _≤_, _<_}
+use mathlib.Core.Path.{_≡_, refl, ap, _∙_}
+use mathlib.Core.List.{List, [], _++_, append-assoc, append-nil}
+use Prim.Native.Nat.{ℕ, _+_, _*_, _^_, _≤_, _<_}
 use native.Mathlib.Omega.{arith}
 use lib.IntN.{ℤ, pos, negsuc}
 use lib.ListN.{length, getD}
-use lib.Signed.{mag}
 use mir.Syntax.{w32}
 use mir.Val.{SFits, toZ, ofZ}
 use mir.ValLaws.{toZ-ofZ}
@@ -19,12 +18,12 @@ use Rattle.plan.specs.declared.Plan.{Plan}
 use Rattle.bucket_test.specs.declared.Threshold.{Threshold}
 use Rattle.bucket_test.specs.declared.State.{State}
 use Rattle.little.specs.Little.{toLE, field}
-use Rattle.little.proofs.LittleLaws.{to-length, field-left, field-right, field-next, field-here, field-last}
+use Rattle.little.proofs.LittleLaws.{to-length, field-right, field-next, field-here, field-last}
 use Rattle.little.proofs.EntryLaws.{join-field}
-use Rattle.saved_test.specs.Form.{headerSize, recordSize, massSize, recordOffset, formSize, countsBetween, liveCount, massesTo, markCode, markStep, recordBytes, massBytes, savedMasses, savedSize, header, recordEntries, massEntries, savedForm}
+use Rattle.saved_test.specs.Form.{headerSize, recordSize, massSize, recordOffset, liveCount, massesTo, markCode, markStep, recordBytes, massBytes, savedMasses, savedSize, header, recordEntries, massEntries, savedForm}
 use Rattle.saved_test.specs.RoundTrip.{Typed}
 use Rattle.saved_test.specs.Reading.{markOf, recordFrom}
-use Rattle.saved_test.proofs.Sizes.{record-length, mass-length, masses-length, join-field-at, header-length, records-length, front-length, form-length}
+use Rattle.saved_test.proofs.Sizes.{record-length, mass-length, masses-length, join-field-at, header-length, front-length}
 
 -- ---- a record
 

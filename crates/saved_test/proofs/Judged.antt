@@ -1,12 +1,12 @@
 -- What is known of a test that a writing accepts (specs/Writing).
-use mathlib.Core.Path.{_≡_, refl, sym, ap, _∙_}
-use mathlib.Core.Bool.{Bool, true, false, _&&_}
+use mathlib.Core.Path.{_≡_, refl, ap, _∙_}
+use mathlib.Core.Bool.{true}
 use mathlib.Core.Logic.{_↔_}
 use mathlib.Core.List.{List, [], _∷_}
-use Prim.Native.Nat.{ℕ, zero, suc, _+_, _*_, _-_, _^_, _≤_, _<_}
-use native.Mathlib.Nat.{mul-suc, mul-zero}
+use Prim.Native.Nat.{ℕ, zero, suc, _*_, _-_, _^_, _≤_, _<_}
+use native.Mathlib.Nat.{mul-suc}
 use native.Mathlib.Omega.{arith}
-use lib.IntN.{ℤ, pos, negsuc}
+use lib.IntN.{ℤ}
 use lib.ListN.{length, take, getD}
 use lib.Seq.{getD-take}
 use Rattle.walk.specs.Numbers.{le?, allUpTo}
@@ -16,19 +16,18 @@ use Rattle.walk.specs.Record.{firstAbove, rowOf}
 use Rattle.walk.specs.Soundness.{boundariesSound, isSound}
 use Rattle.walk.specs.declared.Mark.{Mark}
 use Rattle.walk.specs.declared.Mark.the-variants.{Open, Above, AtMost}
-use Rattle.walk.specs.declared.Walked.{Walked}
-use Rattle.walk.proofs.Tests.{and-true, le?-sound, le?-complete}
+use Rattle.walk.proofs.Tests.{and-true, le?-sound}
 use Rattle.walk.proofs.Lists.{all-getD}
 use Rattle.walk.proofs.SoundnessLaws.{boundaries-say}
 use Rattle.plan.specs.Places.{unless}
 use Rattle.plan.specs.Plan.{spendingOf, planRefusal, Accepted}
 use Rattle.bucket_test.specs.Words.{partAt, wordsFit}
-use Rattle.bucket_test.specs.Turn.{recordAt, recordSound, recordSoundAt}
+use Rattle.bucket_test.specs.Turn.{recordAt, recordSound}
 use Rattle.bucket_test.specs.Draw.{stateSound}
 use Rattle.plan.specs.declared.Plan.{Plan}
 use Rattle.bucket_test.specs.declared.Threshold.{Threshold}
 use Rattle.bucket_test.specs.declared.State.{State}
-use Rattle.plan.proofs.PlaceLaws.{both, le-reads, all-reads, within-reads, none-both, none-says, last-says}
+use Rattle.plan.proofs.PlaceLaws.{all-reads, within-reads, none-both, none-says, last-says}
 use Rattle.bucket_test.proofs.PartLaws.{words-say}
 use Rattle.plan.proofs.AcceptedLaws.{accepted}
 use Rattle.saved_test.specs.Form.{formLimit, recordOffset, formSize, countsBetween, liveBy, liveCount, massesTo, markStep, savedMasses, savedSize}

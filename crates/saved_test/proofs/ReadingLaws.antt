@@ -7,22 +7,21 @@ use native.Mathlib.Numerals.{add-one}
 use native.Mathlib.Omega.{arith}
 use mathlib.Core.Bool.{Bool, true, false, _&&_}
 use lib.ListN.{length, take, drop, set, getD, replicate, length-replicate, replicate-append-replicate}
-use lib.Seq.{drop-cons, set-at, take-suc, take-at, length-take-le}
+use lib.Seq.{drop-cons, set-at, take-suc, length-take-le}
 use Rattle.walk.specs.Units.{wide}
 use Rattle.walk.proofs.Tests.{and-true, le?-complete, le?-fails}
-use Rattle.walk.specs.Numbers.{le?}
 use lib.Dec.{eqb}
 use lib.IntN.{ℤ}
 use Rattle.plan.specs.Places.{eq?, allTo, unless, firstRefusal, joinTo}
 use Rattle.plan.proofs.PlaceLaws.{eq?-complete, eq?-fails, eq-reads, all-reads, first-some, none-both, none-says, last-says}
 use mir.Syntax.{w32}
-use mir.Val.{Fits, SFits, toZ, ofZ}
+use mir.Val.{toZ, ofZ}
 use mir.ValLaws.{toZ-ofZ, toZ-fits}
 use Rattle.walk.specs.declared.Mark.{Mark}
 use Rattle.bucket_test.specs.declared.Threshold.{Threshold}
 use Rattle.little.specs.Little.{field, column}
 use Rattle.little.specs.Little.{filled}
-use Rattle.little.proofs.FilledLaws.{filled-length, filled-over, filled-take}
+use Rattle.little.proofs.FilledLaws.{filled-over, filled-take}
 use Rattle.plan.specs.declared.Plan.{Plan}
 use Rattle.bucket_test.specs.declared.State.{State}
 use Rattle.plan.specs.Plan.{countLimit, spendingOf, planRefusal}

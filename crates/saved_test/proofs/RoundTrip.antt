@@ -2,13 +2,11 @@
 use mathlib.Core.Path.{_≡_, refl, sym, ap, _∙_}
 use mathlib.Core.Logic.{_↔_}
 use mathlib.Core.List.{List, [], _∷_, _++_}
-use Prim.Native.Nat.{ℕ, zero, suc, _*_, _≤_, _<_}
-use native.Mathlib.Omega.{arith}
+use Prim.Native.Nat.{ℕ, zero, suc, _≤_}
 use lib.ListN.{length, take, drop, getD}
 use lib.Seq.{getD-take, take-at}
 use Rattle.walk.specs.Numbers.{le?}
-use Rattle.walk.specs.Units.{wide}
-use Rattle.plan.specs.Places.{unless, firstRefusal, joinTo}
+use Rattle.plan.specs.Places.{unless}
 use Rattle.plan.specs.declared.Plan.{Plan}
 use Rattle.plan.proofs.PlaceLaws.{none-both, last-says, le-reads}
 use Rattle.plan.proofs.PlaceLists.{join-cong}
@@ -17,11 +15,11 @@ use Rattle.bucket_test.specs.Turn.{recordAt}
 use Rattle.bucket_test.specs.Draw.{noState}
 use Rattle.bucket_test.specs.declared.State.{State}
 use Rattle.little.specs.Little.{toLE}
-use Rattle.saved_test.specs.Form.{massSize, liveCount, massesTo, recordBytes, massBytes, savedMasses, savedSize, header, recordEntries, massEntries, savedForm}
+use Rattle.saved_test.specs.Form.{massSize, liveCount, recordBytes, massBytes, savedSize, header, recordEntries, massEntries, savedForm}
 use Rattle.saved_test.specs.Writing.{saveRefusal, writeRefusal, savedBy, bytesBy, saved, bytesAfter}
 use Rattle.saved_test.specs.Reading.{stateIn, wordsIn, readRefusal, loadedBy, wordsBy, loaded, wordsAfter}
 use Rattle.saved_test.specs.Alike.{Alike}
-use Rattle.saved_test.specs.RoundTrip.{Savable, TestBack, BytesBack, WrittenBack, LoadedBack, AcceptedForms, SameBytes, FormLength, NoneOnRefusal}
+use Rattle.saved_test.specs.RoundTrip.{TestBack, BytesBack, WrittenBack, LoadedBack, AcceptedForms, SameBytes, FormLength, NoneOnRefusal}
 use Rattle.saved_test.proofs.Sizes.{form-length}
 use Rattle.saved_test.proofs.Judged.{masses-cong, size-limit}
 use Rattle.saved_test.proofs.TestBack.{test-back, not-refused}

@@ -1,19 +1,19 @@
 -- What the code of src/signed.rt and src/marks.rt leaves to do: signed numbers by their sign, marks by their codes.
 use mathlib.Core.Path.{_≡_, refl, sym, ap, _∙_}
-use mathlib.Core.Bool.{Bool, true, false, _&&_, _||_, or-false}
-use Prim.Native.Nat.{ℕ, zero, suc, _+_, _-_, _^_, _≤_, _<_}
+use mathlib.Core.Bool.{true, false, or-false}
+use Prim.Native.Nat.{ℕ, zero, suc, _+_, _-_, _≤_, _<_}
 use native.Mathlib.Omega.{arith}
-use borrow.Author.Tests.{ltb-true, le-ltb, lt-ltb}
+use borrow.Author.Tests.{ltb-true, le-ltb}
 use lib.IntN.{ℤ, pos, negsuc, _-ℤ_}
 use lib.Signed.{mag, ltZ}
-use lib.Dec.{ltb, eqb}
+use lib.Dec.{eqb}
 use mir.Syntax.{w32}
 use mir.Val.{SFits, toZ, ofZ}
 use mir.ValLaws.{toZ-ofZ, toZ-pos}
-use Rattle.walk.specs.declared.Mark.the-variants.{Open, Above, AtMost}
+use Rattle.walk.specs.declared.Mark.the-variants.{AtMost}
 use Rattle.walk.proofs.Tests.{clash}
 use Rattle.plan.specs.Places.{eq?}
-use Rattle.plan.proofs.PlaceLaws.{eq?-complete, eq?-fails}
+use Rattle.plan.proofs.PlaceLaws.{eq?-fails}
 use Rattle.saved_test.specs.Form.{countsBetween}
 use Rattle.saved_test.specs.Reading.{markOf, markKnown}
 

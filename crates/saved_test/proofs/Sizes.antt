@@ -1,9 +1,9 @@
 -- Lengths of the parts of a saved form (specs/Form).
-use mathlib.Core.Path.{_≡_, refl, sym, ap, _∙_}
-use mathlib.Core.List.{List, [], _∷_, _++_, append-assoc}
+use mathlib.Core.Path.{_≡_, refl, _∙_}
+use mathlib.Core.List.{List, _++_, append-assoc}
 use mathlib.Core.Logic.{⊎-elim}
 use Prim.Native.Nat.{ℕ, zero, suc, _+_, _*_, _≤_, _<_}
-use native.Mathlib.Nat.{eq-or-lt-of-le, mul-zero}
+use native.Mathlib.Nat.{eq-or-lt-of-le}
 use native.Mathlib.Omega.{arith}
 use lib.ListN.{length, getD, length-append}
 use Rattle.plan.specs.Places.{joinTo}
@@ -13,7 +13,7 @@ use Rattle.plan.specs.declared.Plan.{Plan}
 use Rattle.bucket_test.specs.declared.Threshold.{Threshold}
 use Rattle.bucket_test.specs.declared.State.{State}
 use Rattle.plan.proofs.PlaceLists.{join-length}
-use Rattle.little.specs.Little.{toLE, field}
+use Rattle.little.specs.Little.{field}
 use Rattle.little.proofs.LittleLaws.{to-length, field-left, field-right}
 use Rattle.saved_test.specs.Form.{headerSize, recordSize, massSize, recordOffset, formSize, liveCount, massesTo, recordBytes, massBytes, savedMasses, savedSize, header, recordEntries, massEntries, savedForm}
 

@@ -1,35 +1,32 @@
 -- A test that a writing accepts, read back from its form (specs/RoundTrip: TestBack).
-use mathlib.Core.Path.{_≡_, refl, sym, ap, _∙_}
-use mathlib.Core.Bool.{Bool, true, false, _&&_, _||_}
-use mathlib.Core.List.{List, [], _∷_}
-use mathlib.Core.Logic.{⊎-elim}
-use Prim.Native.Nat.{ℕ, zero, suc, _+_, _*_, _^_, _≤_, _<_}
+use mathlib.Core.Path.{_≡_, refl, sym, _∙_}
+use mathlib.Core.Bool.{true}
+use mathlib.Core.List.{List}
+use Prim.Native.Nat.{ℕ, _*_, _^_, _≤_, _<_}
 use native.Mathlib.Omega.{arith}
-use lib.ListN.{length, take, drop, getD, replicate, length-replicate}
+use lib.ListN.{length, take, getD, replicate, length-replicate}
 use lib.Seq.{length-take-le, getD-take, ext-getD}
-use Rattle.walk.specs.Units.{wide, massLimit, horizonLimit}
+use Rattle.walk.specs.Units.{wide, massLimit}
 use Rattle.walk.specs.declared.Mark.{Mark}
 use Rattle.walk.specs.declared.Mark.the-variants.{Open, Above, AtMost}
-use Rattle.plan.specs.Places.{eq?, allTo, overTo, joinTo}
+use Rattle.plan.specs.Places.{eq?}
 use Rattle.plan.specs.Plan.{countLimit, planRefusal, Accepted}
-use Rattle.bucket_test.specs.Words.{partAt, wordsFit}
-use Rattle.bucket_test.specs.Turn.{startRecord, noRecord, recordAt}
+use Rattle.bucket_test.specs.Words.{partAt}
+use Rattle.bucket_test.specs.Turn.{startRecord, recordAt}
 use Rattle.bucket_test.specs.Draw.{stateSound}
 use Rattle.plan.specs.declared.Plan.{Plan}
-use Rattle.bucket_test.specs.declared.Threshold.{Threshold}
 use Rattle.bucket_test.specs.declared.State.{State}
 use Rattle.plan.proofs.PlaceLaws.{eq?-complete, all-reads}
-use Rattle.plan.proofs.PlaceLists.{over-length, over-get, over-drop, join-length}
-use Rattle.bucket_test.proofs.PartLaws.{words-say, join-part}
+use Rattle.plan.proofs.PlaceLists.{over-length, over-drop}
+use Rattle.bucket_test.proofs.PartLaws.{words-say}
 use Rattle.plan.proofs.AcceptedLaws.{accepted}
 use Rattle.bucket_test.proofs.TurningLaws.{part-length}
-use Rattle.little.specs.Little.{field, column}
+use Rattle.little.specs.Little.{column}
 use Rattle.little.specs.Little.{filled}
 use Rattle.little.proofs.FilledLaws.{filled-length, filled-get, filled-past, filled-cong}
-use Rattle.saved_test.specs.Form.{headerSize, recordSize, massSize, recordOffset, formSize, liveCount, massesTo, markCode, markStep, savedMasses, savedSize, savedForm}
+use Rattle.saved_test.specs.Form.{massSize, recordOffset, liveCount, massesTo, markCode, markStep, savedMasses, savedForm}
 use Rattle.saved_test.specs.Alike.{liveMasses, Alike}
-use Rattle.saved_test.specs.Writing.{saveRefusal}
-use Rattle.saved_test.specs.Reading.{markKnown, countFits, recordFrom, recordIn, recordFits, massOffset, partIn, stateIn, wordsIn, massesIn, headerFits, formFits, readRefusal}
+use Rattle.saved_test.specs.Reading.{markKnown, recordIn, recordFits, massOffset, partIn, stateIn, wordsIn, massesIn, headerFits, formFits, readRefusal}
 use Rattle.saved_test.specs.RoundTrip.{Savable, ReadBack, TestBack}
 use Rattle.saved_test.proofs.Sizes.{form-length}
 use Rattle.saved_test.proofs.Fields.{record-from, code-is, step-is, in-record, in-mass, in-count, in-masses-count, in-first, in-second, in-size, in-n, in-ones, in-record-size, in-mass-size}

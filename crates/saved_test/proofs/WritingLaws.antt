@@ -5,13 +5,11 @@ use mathlib.Core.List.{List, [], _∷_, _++_, append-assoc}
 use Prim.Native.Nat.{ℕ, zero, suc, _+_, _*_, _≤_, _<_}
 use native.Mathlib.Numerals.{add-one}
 use native.Mathlib.Omega.{arith}
-use lib.IntN.{ℤ}
 use lib.ListN.{length, drop, getD, length-append}
 use mir.Syntax.{w32}
-use mir.Val.{SFits, toZ, ofZ}
-use mir.ValLaws.{toZ-ofZ}
+use mir.Val.{ofZ}
 use Rattle.walk.specs.Units.{wide}
-use Rattle.plan.specs.Places.{unless, firstRefusal, joinTo}
+use Rattle.plan.specs.Places.{unless, joinTo}
 use Rattle.plan.specs.Plan.{countLimit, planRefusal}
 use Rattle.bucket_test.specs.Words.{partAt, wordsFit}
 use Rattle.bucket_test.specs.Turn.{noRecord, recordAt}

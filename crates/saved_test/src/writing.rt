@@ -1,7 +1,7 @@
 // Writing a test into lent bytes (saved 2).
 ghost use mathlib.Core.Path.{_≡_};
 ghost use mathlib.Core.List.{_++_};
-ghost use Prim.Native.Nat.{ℕ, _+_, _*_, _^_, _≤_, _<_};
+ghost use Prim.Native.Nat.{ℕ, _+_, _*_, _≤_, _<_};
 ghost use lib.ListN.{length, getD};
 ghost use Rattle.walk.specs.Units.{wide};
 ghost use Rattle.walk.specs.Numbers.{le?};

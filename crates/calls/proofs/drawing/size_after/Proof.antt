@@ -1,9 +1,9 @@
 -- Where the old masses of the threshold at place i stand, and where its new ones would.
 use mathlib.Core.Path.{_≡_, _∙_}
-use Prim.Native.Nat.{ℕ, _+_, _*_, _-_, _≤_, _<_}
+use Prim.Native.Nat.{_+_, _*_, _-_, _≤_, _<_}
 use native.Mathlib.Numerals.{add-one}
 use native.Mathlib.Omega.{arith}
-use lib.ListN.{length, take}
+use lib.ListN.{length}
 use Rattle.walk.specs.Units.{wide, horizonLimit}
 use Rattle.plan.specs.Plan.{spendingOf}
 use Rattle.plan.proofs.AcceptedLaws.{accepted}

@@ -1,12 +1,12 @@
 -- 12, else the masses, then header and records, then the answer.
-use mathlib.Core.Path.{_≡_, sym, ap, _∙_}
+use mathlib.Core.Path.{ap, _∙_}
 use native.Mathlib.Omega.{arith}
 use Rattle.walk.proofs.Tests.{le?-sound}
 use Rattle.plan.proofs.PlaceLaws.{passed, failed}
 use Rattle.plan.proofs.AcceptedLaws.{accepted}
 use Rattle.bucket_test.specs.Answers.{answerOf}
 use Rattle.bucket_test.specs.declared.State.{State}
-use Rattle.saved_test.specs.Form.{recordOffset, formSize}
+use Rattle.saved_test.specs.Form.{formSize}
 use Rattle.calls.specs.Calls.{answerNumber}
 use Rattle.calls.proofs.TurnLaws.{few, grows}
 use Rattle.calls.proofs.CallLaws.{rule-small, puts-12, puts-form}

@@ -1,9 +1,5 @@
 -- The masses are read, then the threshold has its turn.
-use mathlib.Core.Path.{_≡_, ap, _∙_}
-use mathlib.Core.List.{List}
-use Prim.Native.Nat.{ℕ}
-use native.Mathlib.Omega.{arith}
-use Rattle.bucket_test.specs.Turn.{turnRecord, turnPart, MayTurn}
+use mathlib.Core.Path.{_≡_, _∙_}
 use Rattle.little.specs.Little.{column, filled}
 use Rattle.saved_test.specs.Form.{massSize, liveCount}
 use borrow.Author.Needs.{needs}

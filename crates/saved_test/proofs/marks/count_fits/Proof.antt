@@ -1,8 +1,9 @@
+-- By the mark; of an open one by its boundaries.
 use Rattle.walk.proofs.Tests.{le?-complete, le?-fails}
 use Rattle.walk.specs.Units.{wide}
 use Rattle.walk.specs.Numbers.{le?}
 use Rattle.saved_test.specs.Form.{countsBetween}
-use mathlib.Core.Path.{_≡_, sym, _∙_}
+use mathlib.Core.Path.{_≡_, _∙_}
 use Rattle.saved_test.proofs.SignLaws.{between-back}
 use mir.Val.{SFits}
 use mir.Syntax.{w32}
@@ -10,7 +11,6 @@ use native.Mathlib.Omega.{arith}
 use borrow.Author.Needs.{needs}
 use Rattle.saved_test.proofs.marks.count_fits.Statement.{statement}
 use Rattle.saved_test.proofs.marks.count_fits.Tie as tie
-use Rattle.saved_test.proofs.marks.count_fits.Reads as reads
 
 enum-told : tie.Need-enum-told
 enum-told c = search needs

@@ -1,3 +1,4 @@
+-- By the mark.
 use Rattle.saved_test.specs.Form.{countsBetween}
 use mathlib.Core.Path.{_≡_, _∙_}
 use Rattle.saved_test.proofs.SignLaws.{between-back}
@@ -6,7 +7,6 @@ use mir.Syntax.{w32}
 use borrow.Author.Needs.{needs}
 use Rattle.saved_test.proofs.marks.live_count.Statement.{statement}
 use Rattle.saved_test.proofs.marks.live_count.Tie as tie
-use Rattle.saved_test.proofs.marks.live_count.Reads as reads
 
 enum-told : tie.Need-enum-told
 enum-told c = search needs

@@ -1,3 +1,4 @@
+-- By the code.
 use Rattle.saved_test.proofs.SignLaws.{known-open, known-above, known-other}
 use Rattle.saved_test.proofs.marks.mark_known.Statement.{statement}
 use Rattle.saved_test.proofs.marks.mark_known.Tie as tie

@@ -1,3 +1,4 @@
+-- By the code.
 use Rattle.saved_test.proofs.SignLaws.{at-most-of}
 use borrow.Author.Needs.{needs}
 use Rattle.saved_test.proofs.marks.mark_of.Statement.{statement}

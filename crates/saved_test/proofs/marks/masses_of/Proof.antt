@@ -1,10 +1,11 @@
+-- The masses of the thresholds before place i are counted.
 use Rattle.saved_test.specs.Form.{massesTo}
 use Rattle.bucket_test.specs.Turn.{noRecord}
 use lib.ListN.{getD}
 use native.Mathlib.Numerals.{add-one}
 use native.Mathlib.Omega.{arith}
-use Prim.Native.Nat.{ℕ, suc, _+_, _≤_, _*_, _-_}
-use mathlib.Core.Path.{_≡_, refl, sym, ap, _∙_}
+use Prim.Native.Nat.{_≤_, _*_, _-_}
+use mathlib.Core.Path.{_≡_, refl}
 use borrow.Author.Needs.{needs}
 use Rattle.saved_test.proofs.marks.masses_of.Statement.{statement}
 use Rattle.saved_test.proofs.marks.masses_of.Tie as tie

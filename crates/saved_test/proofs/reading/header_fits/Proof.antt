@@ -1,8 +1,8 @@
+-- Number by number.
 use Rattle.saved_test.proofs.ReadingLaws.{yes, no, as-read}
 use borrow.Author.Needs.{needs}
 use Rattle.saved_test.proofs.reading.header_fits.Statement.{statement}
 use Rattle.saved_test.proofs.reading.header_fits.Tie as tie
-use Rattle.saved_test.proofs.reading.header_fits.Reads as reads
 
 read-le-requires : tie.Need-read-le-requires
 read-le-requires c κs = search needs

@@ -8,9 +8,9 @@ use Rattle.plan.specs.Places.{joinTo}
 use Rattle.walk.specs.Units.{wide}
 use lib.ListN.{length, drop}
 use native.Mathlib.Omega.{arith}
-use Prim.Native.Nat.{ℕ, _+_, _*_, _-_, _≤_}
+use Prim.Native.Nat.{_+_, _*_, _-_, _≤_}
 use mathlib.Core.List.{_++_}
-use mathlib.Core.Path.{_≡_, refl, sym, ap, _∙_}
+use mathlib.Core.Path.{_≡_, refl, ap, _∙_}
 use borrow.Author.Needs.{needs}
 use Rattle.saved_test.proofs.reading.parts_in.Statement.{statement}
 use Rattle.saved_test.proofs.reading.parts_in.Tie as tie

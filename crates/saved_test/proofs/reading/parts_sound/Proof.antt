@@ -1,17 +1,14 @@
 -- The thresholds before place i pass.
-use mathlib.Core.Path.{_≡_, sym, ap, _∙_}
+use mathlib.Core.Path.{_≡_, _∙_}
 use mathlib.Core.Bool.{false}
-use mathlib.Core.List.{List}
-use Prim.Native.Nat.{ℕ, _+_, _*_, _-_, _≤_, _<_}
+use Prim.Native.Nat.{_+_, _*_, _-_, _≤_}
 use native.Mathlib.Omega.{arith}
 use lib.ListN.{length}
 use Rattle.walk.specs.Units.{wide}
 use Rattle.plan.specs.Plan.{countLimit, spendingOf}
-use Rattle.plan.specs.declared.Plan.{Plan}
 use Rattle.plan.proofs.PlaceLaws.{passed, failed, Sought, sought-none, sought-next, sought-here, sought-nowhere}
 use Rattle.plan.proofs.AcceptedLaws.{accepted}
-use Rattle.saved_test.specs.Form.{liveCount}
-use Rattle.saved_test.specs.Reading.{recordIn, massOffset}
+use Rattle.saved_test.specs.Reading.{massOffset}
 use Rattle.saved_test.proofs.ReadingLaws.{passes, offset-first, held-few, held-inside, held-next, held-passes}
 use borrow.Author.Needs.{needs}
 use Rattle.saved_test.proofs.reading.parts_sound.Statement.{statement}

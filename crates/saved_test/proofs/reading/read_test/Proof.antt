@@ -1,7 +1,7 @@
 -- The refusals in their order, then the words.
 use mathlib.Core.Path.{_≡_, sym, ap, _∙_}
 use mathlib.Core.Bool.{true}
-use Prim.Native.Nat.{ℕ, _*_, _≤_}
+use Prim.Native.Nat.{_*_, _≤_}
 use lib.ListN.{length}
 use Rattle.walk.specs.Units.{wide}
 use Rattle.plan.specs.Plan.{countLimit, planRefusal}

@@ -4,7 +4,7 @@ use Rattle.little.specs.Little.{field}
 use Rattle.saved_test.specs.Reading.{markKnown, countFits}
 use Rattle.bucket_test.specs.declared.Threshold.{Threshold}
 use Rattle.plan.proofs.PlaceLaws.{passed, failed}
-use mathlib.Core.Path.{_≡_, sym, ap, _∙_}
+use mathlib.Core.Path.{_≡_, ap, _∙_}
 use borrow.Author.Needs.{needs}
 use Rattle.saved_test.proofs.reading.record_fits.Statement.{statement}
 use Rattle.saved_test.proofs.reading.record_fits.Tie as tie

@@ -1,9 +1,8 @@
+-- Field by field.
 use Rattle.saved_test.proofs.ReadingLaws.{record-made}
-use Rattle.saved_test.specs.Reading.{recordFrom}
 use borrow.Author.Needs.{needs}
 use Rattle.saved_test.proofs.reading.record_from.Statement.{statement}
 use Rattle.saved_test.proofs.reading.record_from.Tie as tie
-use Rattle.saved_test.proofs.reading.record_from.Reads as reads
 
 read-u32-requires : tie.Need-read-u32-requires
 read-u32-requires c κs = search needs

@@ -9,12 +9,11 @@ use Rattle.plan.specs.Plan.{countLimit}
 use Rattle.plan.specs.Places.{overTo}
 use lib.ListN.{length, replicate}
 use native.Mathlib.Omega.{arith}
-use Prim.Native.Nat.{ℕ, _≤_, _-_}
-use mathlib.Core.Path.{_≡_, refl, sym, ap, _∙_}
+use Prim.Native.Nat.{_≤_, _-_}
+use mathlib.Core.Path.{_≡_, ap, _∙_}
 use borrow.Author.Needs.{needs}
 use Rattle.saved_test.proofs.reading.records_in.Statement.{statement}
 use Rattle.saved_test.proofs.reading.records_in.Tie as tie
-use Rattle.saved_test.proofs.reading.records_in.Reads as reads
 
 abbrev Inv-loop : tie.InvT-loop
 Inv-loop bytes count records₀ i₀ records i = (i ≤ count) × (length records ≡ countLimit) × (records ≡ overTo i (λ k _. recordIn bytes k) (replicate countLimit startRecord))

@@ -1,8 +1,8 @@
+-- n, S and the records.
 use Rattle.saved_test.specs.Reading.{stateIn}
 use borrow.Author.Needs.{needs}
 use Rattle.saved_test.proofs.reading.state_in.Statement.{statement}
 use Rattle.saved_test.proofs.reading.state_in.Tie as tie
-use Rattle.saved_test.proofs.reading.state_in.Reads as reads
 
 read-u32-requires : tie.Need-read-u32-requires
 read-u32-requires c κs = search needs

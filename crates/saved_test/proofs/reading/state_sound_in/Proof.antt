@@ -1,8 +1,6 @@
 -- n and S first, then the parts.
 use native.Mathlib.Omega.{arith}
-use Rattle.walk.specs.Units.{horizonLimit}
 use Rattle.plan.proofs.AcceptedLaws.{accepted}
-use Rattle.saved_test.specs.Reading.{wordsIn}
 use Rattle.saved_test.proofs.ReadingLaws.{sound-late, sound-ones, sound-parts}
 use borrow.Author.Needs.{needs}
 use Rattle.saved_test.proofs.reading.state_sound_in.Statement.{statement}

@@ -1,3 +1,4 @@
+-- By the sign.
 use mathlib.Core.Path.{_∙_}
 use mir.Val.{SFits}
 use mir.Syntax.{w32}
@@ -5,7 +6,6 @@ use Rattle.saved_test.proofs.SignLaws.{mag-back, neg-bits, pos-bits}
 use borrow.Author.Needs.{needs}
 use Rattle.saved_test.proofs.signed.bits_of.Statement.{statement}
 use Rattle.saved_test.proofs.signed.bits_of.Tie as tie
-use Rattle.saved_test.proofs.signed.bits_of.Reads as reads
 
 magnitude-requires : tie.Need-magnitude-requires
 magnitude-requires c κs = search needs

@@ -1,5 +1,5 @@
-use Prim.Native.Nat.{_-_}
-use mathlib.Core.Path.{_≡_, sym, _∙_}
+-- By the sign of the lower boundary.
+use mathlib.Core.Path.{_∙_}
 use native.Mathlib.Omega.{arith}
 use mir.Val.{SFits}
 use mir.Syntax.{w32}
@@ -7,7 +7,6 @@ use Rattle.saved_test.proofs.SignLaws.{mag-back, neg-between, pos-betwe
 use borrow.Author.Needs.{needs}
 use Rattle.saved_test.proofs.signed.counts_between.Statement.{statement}
 use Rattle.saved_test.proofs.signed.counts_between.Tie as tie
-use Rattle.saved_test.proofs.signed.counts_between.Reads as reads
 
 magnitude-requires : tie.Need-magnitude-requires
 magnitude-requires c κs = search needs

@@ -1,3 +1,4 @@
+-- By the sign.
 use borrow.Author.Needs.{needs}
 use native.Mathlib.Omega.{arith}
 use mir.Val.{SFits}

@@ -1,3 +1,4 @@
+-- By the highest bit.
 use native.Mathlib.Omega.{arith}
 use Rattle.saved_test.proofs.SignLaws.{high-fits, high-value}
 use borrow.Author.Needs.{needs}

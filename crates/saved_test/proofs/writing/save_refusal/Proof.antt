@@ -3,7 +3,7 @@ use Rattle.saved_test.proofs.WritingLaws.{save-plan, save-8, save-by}
 use Rattle.plan.proofs.PlaceLaws.{passed, failed}
 use Rattle.walk.specs.Units.{wide}
 use mathlib.Core.Bool.{true, false}
-use mathlib.Core.Path.{_≡_, sym, _∙_}
+use mathlib.Core.Path.{sym, _∙_}
 use borrow.Author.Needs.{needs}
 use Rattle.saved_test.proofs.writing.save_refusal.Statement.{statement}
 use Rattle.saved_test.proofs.writing.save_refusal.Tie as tie

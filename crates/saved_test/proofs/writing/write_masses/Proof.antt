@@ -1,3 +1,4 @@
+-- The masses of the thresholds before place i are put.
 use Rattle.saved_test.proofs.WritingLaws.{masses-put, masses-at, masses-room}
 use Rattle.saved_test.specs.Form.{liveCount, massesTo, massBytes}
 use Rattle.little.proofs.Putting.{put-none}
