@@ -3,13 +3,13 @@ use mathlib.Core.Path.{_≡_}
 use mathlib.Core.List.{List}
 use Prim.Native.Nat.{ℕ, _*_, _≤_, _<_}
 use native.Mathlib.Omega.{arith}
-use lib.ListN.{length, replicate, length-replicate}
+use lib.ListN.{length, length-replicate}
 use Rattle.walk.specs.Units.{wide}
 use Rattle.plan.specs.Plan.{countLimit}
 use Rattle.plan.specs.declared.Plan.{Plan}
 use Rattle.plan.proofs.PlaceLists.{over-get, join-length}
 use Rattle.bucket_test.specs.Words.{partAt}
-use Rattle.bucket_test.specs.Turn.{startRecord, noRecord, recordAt}
+use Rattle.bucket_test.specs.Turn.{noRecord, recordAt}
 use Rattle.bucket_test.proofs.PartLaws.{join-part}
 use Rattle.little.proofs.FilledLaws.{filled-length}
 use Rattle.saved_test.specs.Form.{liveCount}
@@ -19,7 +19,7 @@ module _ (p : Plan) (bytes : List ℕ) where
   pub record-held : p .count ≤ countLimit → (i : ℕ) → i < p .count → recordAt (stateIn p bytes) i ≡ recordIn bytes i
   unfolding stateIn
   record-held few i l =
-      over-get (p .count) (λ i _. recordIn bytes i) (replicate countLimit startRecord) i noRecord l (omega (arith, few, length-replicate countLimit startRecord))
+      over-get (p .count) (λ i _. recordIn bytes i) _ i noRecord l (rw length-replicate (omega (arith, few)))
 
   part-size : (i : ℕ) → length (partIn bytes (p .count) i) ≡ wide
   unfolding partIn
