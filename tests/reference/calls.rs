@@ -31,7 +31,7 @@ const NOTICED: u64 = 4;
 
 // ---- one call by both
 
-fn kind(number: u32) -> String {
+pub fn kind(number: u32) -> String {
     match number {
         100 => "open".into(),
         101..=116 => "decided".into(),
@@ -43,7 +43,7 @@ fn kind(number: u32) -> String {
 }
 
 /// The form at the start of lent bytes, as long as it says.
-fn form_in(lent: &[u8]) -> &[u8] {
+pub fn form_in(lent: &[u8]) -> &[u8] {
     let whole = lent.get(8..12).map_or(0, |four| four.iter().rev().fold(0, |sum, byte| sum << 8 | *byte as usize));
     &lent[..whole.min(lent.len())]
 }

@@ -12,6 +12,7 @@ mod compare;
 mod counting;
 mod damage;
 mod damaged;
+mod damaged_files;
 mod decided;
 mod draft;
 mod draws;
@@ -63,6 +64,7 @@ const USAGE: &str = "usage: reference COMMAND
   compare --program PATH [--seed N] [--keep DIR]
                         the program against the reference
   counting [--seed N]   the library's runs that count to a p-value, and their shares over all orders
+  damaged               what the example in C made of damaged files, as tests/shuffle kept them, against the reference
   gandy [--seed N]      the library's boundaries and the mean draws beside the published ones
   narrower [--seed N]   the library's bucket where several contain the interval, against the reference
   rounding [--seed N]   the library's new masses where their sums leave chosen remainders, against the reference
@@ -113,6 +115,10 @@ fn main() {
         "close" => close::run(seed()),
         "compare" => compare_program(words),
         "counting" => counting::run(seed()),
+        "damaged" => {
+            let [] = values_of([], words);
+            damaged_files::run()
+        }
         "gandy" => gandy::run(seed()),
         "narrower" => narrower::run(seed()),
         "rounding" => rounding::run(seed()),

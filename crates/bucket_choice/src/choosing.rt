@@ -1,5 +1,6 @@
 // Of the buckets that contain an interval from low to high, in millionths, the first of the narrowest (rules 7.1, 7.2).
 
+use plan::BUCKET_LIMIT;
 use plan::Plan;
 ghost use mathlib.Core.Path.{_≡_};
 ghost use mathlib.Core.Bool.{_&&_};
@@ -26,21 +27,25 @@ fn width_of(left: u32, right: u32) -> u32
     right - left
 }
 
-// Its place, or the number of buckets where none contains the interval. There are at most 16, and low is at most high: so a bucket that contains
-// the interval has its left end at most at its right one.
-pub fn chosen_bucket(p: Plan, low: u32, high: u32) -> u32
-    requires { ⌜ (p .buckets ≤ bucketLimit) × (low ≤ high) ⌝ }
-    ensures { λ r. ⌜ r ≡ chosenBucket p low high ⌝ }
+// Its place in a plan with the first `buckets` of these buckets, of at most sixteen, or their number where none contains the interval. low is at
+// most high: so a bucket that contains the interval has its left end at most at its right one.
+pub fn chosen_bucket<'a>(
+    lefts: &'a [u32; BUCKET_LIMIT],
+    rights: &'a [u32; BUCKET_LIMIT],
+    buckets: u32,
+    low: u32,
+    high: u32,
+) -> u32
+    requires { ⌜ (buckets ≤ bucketLimit) × (low ≤ high) ⌝ }
+    ensures { λ r. ⌜ ((p : Plan) → p .buckets ≡ buckets → p .left ≡ now (lefts .entry) → p .right ≡ now (rights .entry) → r ≡ chosenBucket p low high) ⌝ }
 {
-    let lefts = p.left;
-    let rights = p.right;
-    let mut place = p.buckets;
-    for j in 0..p.buckets {
+    let mut place = buckets;
+    for j in 0..buckets {
         let at = j as usize;
         let left = lefts[at];
         let right = rights[at];
         if contains(left, right, low, high) {
-            if place == p.buckets {
+            if place == buckets {
                 place = j;
             } else {
                 let held = place as usize;

@@ -1,5 +1,5 @@
 -- What a turn of each loop of src/answering.rt leaves to do, and the answer rule, which only Trials, where it computes, unfolds besides.
-use mathlib.Core.Path.{_≡_, refl}
+use mathlib.Core.Path.{_≡_, refl, sym}
 use mathlib.Core.Bool.{Bool, true, false}
 use Prim.Native.Nat.{ℕ, suc, _+_, _≤_, _<_, max, min}
 use native.Mathlib.Numerals.{add-one}
@@ -14,8 +14,9 @@ use Rattle.bucket_test.specs.Turn.{recordAt, wideOpen}
 use Rattle.bucket_test.specs.Answers.{lowOf, highOf, anyWide, firstThatFits, answerBy, answerOver, answerOf, isEnding, refusalOf}
 use Rattle.bucket_test.specs.declared.State.{State}
 use Rattle.plan.specs.declared.Plan.{Plan}
+use Rattle.bucket_test.specs.declared.Answer.{Answer}
 use Rattle.bucket_test.specs.declared.Answer.the-variants.{Open, Decided, Crossed, Wide, Spent}
-use Rattle.plan.proofs.PlaceLaws.{eq?-complete, eq?-fails, eq?-false, none-reads}
+use Rattle.plan.proofs.PlaceLaws.{eq?-false, none-reads}
 
 -- one place more
 pub largest-more : (i : ℕ) (f : ℕ → ℕ) (least x : ℕ) → x ≡ largestTo i f least → max x (f i) ≡ largestTo (i + 1) f least
@@ -33,36 +34,39 @@ pub rule-with : (choice : Choice) (p : Plan) (s : State) → let j = choice p (l
 unfolding answerOver answerBy
 rule-with choice p s = refl
 
--- ---- case by case
+-- ---- the rule of an interval from low to high, where the plan p has b buckets, w says that something is wide and e that the horizon is reached
 
-module _ (p : Plan) (s : State) (low high : ℕ) (low-is : low ≡ lowOf p s) (high-is : high ≡ highOf p s) where
-  rule : answerOf p s ≡ answerBy p s low high (chosenBucket p low high)
-  unfolding answerOver
-  rule = rw (low-is, high-is)
+module _ (p : Plan) (low high b : ℕ) (w e : Bool) where
+  abbrev fits : Answer
+  fits = let k = chosenBucket p low high in firstThatFits (lt? high low) (lt? k b) k w e
 
-  pub crossed : high < low → Crossed ≡ answerOf p s
-  unfolding answerBy
-  crossed h = rw (rule, le?-complete (suc high) low h)
+  -- case by case
+  pub crossed : high < low → Crossed ≡ fits
+  crossed h = rw (le?-complete (suc high) low h)
 
   module _ (straight : low ≤ high) (j : ℕ) (place : j ≡ chosenBucket p low high) where
-    pub decided : j < p .buckets → Decided (j + 1) ≡ answerOf p s
-    unfolding answerBy
-    decided l = rw (rule, le?-fails (suc high) low (omega arith), ← place, le?-complete (suc j) (p .buckets) l, add-one j)
+    pub decided : j < b → Decided (j + 1) ≡ fits
+    decided l = rw (← place, le?-fails (suc high) low (omega arith), le?-complete (suc j) b l, add-one j)
 
-    module _ (none : p .buckets ≤ j) where
-      undecided : answerOf p s ≡ firstThatFits false false j (anyWide p s) (eq? (s .n) (p .horizon))
-      unfolding answerBy
-      undecided = rw (rule, le?-fails (suc high) low (omega arith), ← place, le?-fails (suc j) (p .buckets) (omega arith))
+    module _ (none : b ≤ j) where
+      undecided : fits ≡ firstThatFits false false j w e
+      undecided = rw (← place, le?-fails (suc high) low (omega arith), le?-fails (suc j) b (omega arith))
 
-      pub wide : true ≡ anyWide p s → Wide ≡ answerOf p s
-      wide e = rw (undecided, ← e)
+      pub wide : w ≡ true → Wide ≡ fits
+      wide t = rw (undecided, t)
 
-      module _ (thin : false ≡ anyWide p s) where
-        pub spent : s .n ≡ p .horizon → Spent ≡ answerOf p s
-        spent e = rw (undecided, ← thin, eq?-complete (s .n) (p .horizon) e)
+      module _ (thin : w ≡ false) where
+        pub spent : e ≡ true → Spent ≡ fits
+        spent t = rw (undecided, thin, t)
 
-        pub open-yet : ¬ (s .n ≡ p .horizon) → Open ≡ answerOf p s
-        open-yet e = rw (undecided, ← thin, eq?-fails (s .n) (p .horizon) e)
+        pub open-yet : e ≡ false → Open ≡ fits
+        open-yet t = rw (undecided, thin, t)
+
+-- .. is the answer to a state with this interval
+pub rule-of : (p : Plan) (s : State) {low high : ℕ} {w e : Bool}
+    → low ≡ lowOf p s → high ≡ highOf p s → w ≡ anyWide p s → e ≡ eq? (s .n) (p .horizon)
+    → fits p low high (p .buckets) w e ≡ answerOf p s
+rule-of p s low high wide spent = rw (low, high, wide, spent) (sym (rule-with chosenBucket p s))
 
 -- ---- what else is known of the rule
 

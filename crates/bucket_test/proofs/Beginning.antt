@@ -1,5 +1,5 @@
 -- A beginning answers `open`: no bucket contains the whole, nothing is wide, and the horizon is not 0.
-use mathlib.Core.Path.{_≡_, refl, sym}
+use mathlib.Core.Path.{_≡_, refl, sym, _∙_}
 use mathlib.Core.Bool.{false}
 use Prim.Native.Nat.{ℕ, zero, suc, _<_}
 use native.Mathlib.Omega.{arith}
@@ -15,9 +15,9 @@ use Rattle.bucket_test.specs.Answers.{lowOf, highOf, anyWide, answerOf}
 use Rattle.bucket_test.specs.Draw.{startState}
 use Rattle.plan.specs.declared.Plan.{Plan}
 use Rattle.bucket_test.specs.declared.Answer.the-variants.{Open}
-use Rattle.plan.proofs.PlaceLaws.{none-reads}
+use Rattle.plan.proofs.PlaceLaws.{eq?-fails, none-reads}
 use Rattle.plan.proofs.AcceptedLaws.{permitted-le}
-use Rattle.bucket_test.proofs.AnsweringLaws.{open-yet}
+use Rattle.bucket_test.proofs.AnsweringLaws.{rule-of, open-yet}
 
 largest-none : (n : ℕ) (f : ℕ → ℕ) → ((i : ℕ) → i < n → f i ≡ 0) → largestTo n f 0 ≡ 0
 unfolding largestTo
@@ -55,6 +55,5 @@ module _ (p : Plan) (ok : Accepted p) where
   pub start-open : answerOf p startState ≡ Open
   unfolding startState
   start-open =
-      sym (open-yet p startState 0 million (sym start-low) (sym start-high) (omega arith) (p .buckets)
-      (sym (chosen-none p 0 million none-contains)) (omega arith) (sym start-thin)
-      (λ e. omega (arith, ok .horizon-range, e)))
+      sym (open-yet p 0 million (p .buckets) false false (omega arith) _ (sym (chosen-none p 0 million none-contains)) (omega arith) refl refl
+      ∙ rule-of p startState (sym start-low) (sym start-high) (sym start-thin) (sym (eq?-fails 0 (p .horizon) (λ e. omega (arith, ok .horizon-range, e)))))

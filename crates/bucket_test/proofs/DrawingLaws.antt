@@ -1,8 +1,8 @@
 -- What a draw that nothing refuses may do, and each way out of a beginning and a draw, in plain variables.
-use mathlib.Core.Path.{_≡_, sym, ap, _∙_}
+use mathlib.Core.Path.{_≡_, refl, sym, ap, _∙_}
 use mathlib.Core.Bool.{true, false, _&&_}
 use mathlib.Core.List.{List}
-use Prim.Native.Nat.{ℕ, zero, suc, _+_, _*_, _≤_, _<_}
+use Prim.Native.Nat.{ℕ, zero, suc, _+_, _*_, _-_, _≤_, _<_}
 use native.Mathlib.Nat.{le-of-lt}
 use native.Mathlib.Omega.{arith}
 use lib.ListN.{length}
@@ -10,16 +10,16 @@ use Rattle.walk.specs.Numbers.{le?}
 use Rattle.walk.specs.Units.{million, wide, horizonLimit}
 use Rattle.walk.specs.Spending.{IsSpending}
 use Rattle.walk.specs.Strings.{markOpen}
-use Rattle.walk.specs.Record.{isWide}
+use Rattle.walk.specs.Record.{firstAbove, isWide}
 use Rattle.walk.specs.declared.Mark.{Mark}
 use Rattle.walk.specs.declared.Mark.the-variants.{Open, Above, AtMost}
 use Rattle.walk.proofs.Tests.{and-true, le?-sound, le?-complete, le?-fails}
-use Rattle.walk.proofs.SoundnessLaws.{steppable}
+use Rattle.walk.proofs.SoundnessLaws.{few-live, steppable}
 use Rattle.plan.specs.Places.{overTo, joinTo}
 use Rattle.plan.specs.Plan.{thresholdAt, spendingOf, planRefusal, Accepted}
 use Rattle.bucket_choice.specs.Choice.{chosenBucket}
 use Rattle.bucket_test.specs.Words.{partAt, wordsFit}
-use Rattle.bucket_test.specs.Turn.{recordAt, MayTurn, recordSound, recordTurn, partTurn, recordSoundAt, MayTurnAt}
+use Rattle.bucket_test.specs.Turn.{recordAt, wideOpen, MayTurn, recordSound, recordTurn, partTurn, recordSoundAt, MayTurnAt}
 use Rattle.bucket_test.specs.Answers.{lowOf, highOf, answerOf, isEnding}
 use Rattle.bucket_test.specs.Draw.{Outcome, drawnOf, startState, startWords, noState, beginRefusal, begunBy, begunOver, begun, stateSound, drawRefusalOver, drawRefusal, nextState, nextWords, drawnBy, drawnOver, drawn, reportOver, report}
 use Rattle.bucket_test.specs.declared.Threshold.{Threshold}
@@ -34,13 +34,25 @@ use Rattle.bucket_test.proofs.TurningLaws.{part-length}
 
 -- ---- a threshold that refusal 11 lets through and that is not wide may have its turn
 
-may-turn-by : (E : ℕ → ℕ) (n S a : ℕ) → a ≤ million → IsSpending E → n ≤ horizonLimit
-    → (t : Threshold) (part : List ℕ) → length part ≡ wide
-    → (m : Mark) → recordSound (E n) n S m t part ≡ true → (markOpen m && isWide (t .walked)) ≡ false → MayTurn a (E (suc n)) m t part
-may-turn-by E n S a threshold spends early t part size Open sound thin =
-    steppable E n S (t .walked) part size a threshold spends early thin sound
-may-turn-by E n S a threshold spends early t part size (Above u) sound thin = tt
-may-turn-by E n S a threshold spends early t part size (AtMost u) sound thin = tt
+may-turn-by : (E : ℕ → ℕ) (n S a : ℕ) → a ≤ million → IsSpending E → n ≤ horizonLimit → (t : Threshold) (part : List ℕ)
+    → (m : Mark) → (m ≡ Open → t .walked .upper - firstAbove (t .walked .lower) < length part)
+    → recordSound (E n) n S m t part ≡ true → (markOpen m && isWide (t .walked)) ≡ false → MayTurn a (E (suc n)) m t part
+may-turn-by E n S a threshold spends early t part Open room sound thin =
+    steppable E n S (t .walked) part (room refl) a threshold spends early thin sound
+may-turn-by E n S a threshold spends early t part (Above u) room sound thin = tt
+may-turn-by E n S a threshold spends early t part (AtMost u) room sound thin = tt
+
+-- the threshold at place i of an accepted plan after n draws, its record t and its masses in any part: in one with a word more than an open
+-- one's live counts it may have its turn, and so in one of 769
+module _ (p : Plan) (ok : Accepted p) (i : ℕ) (l : i < p .count) (n S : ℕ) (early : n ≤ horizonLimit) (t : Threshold) (part : List ℕ)
+    (sound : recordSound (spendingOf p i n) n S (t .mark) t part ≡ true) (thin : wideOpen t ≡ false) where
+  pub may-turn-in : (t .mark ≡ Open → t .walked .upper - firstAbove (t .walked .lower) < length part)
+      → MayTurn (thresholdAt p i) (spendingOf p i (suc n)) (t .mark) t part
+  may-turn-in room =
+      may-turn-by (spendingOf p i) n S (thresholdAt p i) (threshold-ok p ok i l) (spends p ok i l) early t part (t .mark) room sound thin
+
+  may-turn-wide : length part ≡ wide → MayTurn (thresholdAt p i) (spendingOf p i (suc n)) (t .mark) t part
+  may-turn-wide size = may-turn-in (λ is. omega (arith, few-live (spendingOf p i n) n S (t .walked) part (rw is at sound) (rw is at thin)))
 
 -- ---- a draw that nothing refuses
 
@@ -67,8 +79,8 @@ module _ (p : Plan) (s : State) (ws : List ℕ) (good : planRefusal p ≡ 0) (fi
 
   pub all-may-turn : (i : ℕ) → i < p .count → MayTurnAt p ws (suc (s .n)) i (recordAt s i)
   all-may-turn i l =
-      may-turn-by (spendingOf p i) (s .n) (s .ones) (thresholdAt p i) (threshold-ok p ok i l) (spends p ok i l) (le-of-lt early)
-      (recordAt s i) (partAt i ws) (part-length ws (p .count) i fits l) (recordAt s i .mark) (sound-at i l) (thin-at p s (not-over p s open-yet .0) i l)
+      may-turn-wide p ok i l (s .n) (s .ones) (le-of-lt early) (recordAt s i) (partAt i ws) (sound-at i l) (thin-at p s (not-over p s open-yet .0) i l)
+      (part-length ws (p .count) i fits l)
 
 -- the state and the words after the turns of all, of which n is the draw
 module _ (p : Plan) (s : State) (ws : List ℕ) (d n : ℕ) (n-is : n ≡ suc (s .n)) where

@@ -3,7 +3,7 @@ use mathlib.Core.Path.{_≡_, refl, _∙_}
 use mathlib.Core.Bool.{Bool, true, false, not}
 use mathlib.Core.List.{List, [], _∷_}
 use mathlib.Core.Logic.{⊎-elim}
-use Prim.Native.Nat.{ℕ, zero, suc, _+_, _*_, _≤_, _<_}
+use Prim.Native.Nat.{ℕ, zero, suc, _+_, _*_, _-_, _≤_, _<_}
 use native.Mathlib.Omega.{arith}
 use lib.ListN.{length, List·getD-eq-default}
 use Rattle.walk.specs.Numbers.{le?}
@@ -11,14 +11,14 @@ use Rattle.walk.specs.Units.{million, wide}
 use Rattle.walk.specs.Spending.{IsSpending}
 use Rattle.walk.specs.Walk.{Walk, stepWalk}
 use Rattle.walk.specs.Row.{Row, stepRow}
-use Rattle.walk.specs.Record.{rowOf, recordOf, isWide, padded}
+use Rattle.walk.specs.Record.{firstAbove, rowOf, recordOf, isWide, padded}
 use Rattle.walk.specs.Soundness.{isSound}
 use Rattle.walk.specs.Facts.{asWalk, StepFacts}
 use Rattle.walk.specs.declared.Mark.{Mark}
 use Rattle.walk.specs.declared.Mark.the-variants.{Open, Above, AtMost}
 use Rattle.walk.specs.declared.Walked.{Walked}
 use Rattle.walk.proofs.WalkFacts.{step-facts}
-use Rattle.walk.proofs.SoundnessLaws.{padded-length, checked, narrow}
+use Rattle.walk.proofs.SoundnessLaws.{padded-length, sound-between, checked, narrow}
 use Rattle.walk.proofs.RecordLaws.{judged-same, judged-on, judged-open}
 use Rattle.plan.specs.Places.{unless, firstRefusal}
 use Rattle.plan.specs.Plan.{thresholdAt, spendingOf, planRefusal, Accepted}
@@ -45,15 +45,18 @@ module _ (a : ℕ) (threshold : a ≤ million) (E : ℕ → ℕ) (spends : IsSpe
   abbrev next : Row
   next = stepRow a (E (suc n)) (rowOf w part)
 
+  held : w .upper - firstAbove (w .lower) ≤ length part
+  held = omega (arith, sound-between (E n) n S w part sound .fits)
+
   -- by count, as the rules have it
   abbrev stepped : Walk
   stepped = stepWalk a (E (suc n)) (suc n) (asWalk (rowOf w part))
 
   facts : StepFacts a (E (suc n)) n (rowOf w part)
-  facts = step-facts a threshold E spends n (rowOf w part) (checked E n S w part size sound .sound) .0
+  facts = step-facts a threshold E spends n (rowOf w part) (checked E n S w part held sound .sound) .0
 
   next-stands : Stands stepped (recordOf next) (padded (next .masses))
-  next-stands = stands (facts .same) (padded-length (next .masses) (omega (arith, narrow E n S w part size sound thin, facts .moves)))
+  next-stands = stands (facts .same) (padded-length (next .masses) (omega (arith, narrow E n S w part held sound thin, facts .moves)))
 
   next-walks : (ones : ℕ)
       → Stands stepped (recordOf next) (padded (next .masses)) × MarkedAt stepped (suc n) ones (marked (suc n) ones (recordOf next))
@@ -108,10 +111,10 @@ module _ (p : Plan) (s : State) (ws : List ℕ) (d : ℕ) where
         where
           none : length (s .records) ≤ i → ⊥
           none h =
-              let c =
-              checked (spendingOf p i) (s .n) (s .ones) (noRecord .walked) (partAt i ws) size
+              let b =
+              sound-between (spendingOf p i (s .n)) (s .n) (s .ones) (noRecord .walked) (partAt i ws)
               (rw (List·getD-eq-default (s .records) noRecord {n = i} h) at (sound-at p s ws good fits open-yet sound i l)) in
-              omega (arith, c .upper-is, c .sound .sound .live)
+              omega (arith, b .to)
 
       pub record-next : recordAt (nextState p s ws d) i ≡ recordTurned i (recordAt s i .mark)
       unfolding nextState

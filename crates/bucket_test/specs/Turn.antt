@@ -59,7 +59,7 @@ module _ (a e n S : ℕ) where
   turnPart (Above u) t part = part
   turnPart (AtMost u) t part = part
 
--- what a turn asks of an open threshold: that its walk can go one step on
+-- what a turn asks of an open threshold: that its walk can go one step on, in the part
 abbrev pub MayTurn : ℕ → ℕ → Mark → Threshold → List ℕ → Type 0
 MayTurn a e Open t part = Steppable a e (t .walked) part
 MayTurn a e (Above u) t part = Unit

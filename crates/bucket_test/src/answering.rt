@@ -4,27 +4,29 @@ use crate::Answer;
 use crate::State;
 use crate::Threshold;
 use bucket_choice::choosing::chosen_bucket;
+use plan::BUCKET_LIMIT;
 use plan::Plan;
 use walk::MILLION;
 use walk::Mark;
 use walk::soundness::is_wide;
 ghost use mathlib.Core.Path.{_≡_};
 ghost use Prim.Native.Nat.{_≤_, max, min};
-ghost use Rattle.walk.specs.Numbers.{only, choose};
+ghost use Rattle.walk.specs.Numbers.{lt?, only, choose};
 ghost use Rattle.walk.specs.Units.{million};
 ghost use Rattle.walk.specs.Strings.{Upper, Lower, isOn};
 ghost use Rattle.plan.specs.Plan.{countLimit, bucketLimit};
+ghost use Rattle.bucket_choice.specs.Choice.{chosenBucket};
 ghost use Rattle.bucket_test.specs.Turn.{wideOpen};
-ghost use Rattle.bucket_test.specs.Answers.{lowOf, highOf, anyWide, answerOf};
+ghost use Rattle.bucket_test.specs.Answers.{lowOf, highOf, anyWide, firstThatFits, answerOf};
 
 // The interval from low to high, in millionths.
-pub(crate) struct Interval {
+pub struct Interval {
     pub low: u32,
     pub high: u32,
 }
 
 // A threshold t with the mark m narrows the interval.
-fn narrowed(v: Interval, m: Mark, t: u32) -> Interval
+pub fn narrowed(v: Interval, m: Mark, t: u32) -> Interval
     requires { ⌜ v .high ≤ million ⌝ }
     ensures { λ r. ⌜ (r .low ≡ max (v .low) (only (isOn Upper m) t)) × (r .high ≡ min (v .high) (choose (isOn Lower m) t million)) ⌝ }
 {
@@ -75,7 +77,7 @@ pub(crate) fn interval_of(p: Plan, s: State) -> Interval
     v
 }
 
-fn wide_open(t: Threshold) -> bool
+pub fn wide_open(t: Threshold) -> bool
     ensures { λ r. ⌜ r ≡ wideOpen t ⌝ }
 {
     let m = t.mark;
@@ -104,24 +106,50 @@ fn any_wide(p: Plan, s: State) -> bool
     false
 }
 
-// The first answer that fits, where the plan is accepted.
+// The first answer that fits an interval from low to high, where a plan has the first `buckets` of these buckets, of at most sixteen.
+pub fn first_that_fits<'a>(
+    low: u32,
+    high: u32,
+    wide: bool,
+    spent: bool,
+    lefts: &'a [u32; BUCKET_LIMIT],
+    rights: &'a [u32; BUCKET_LIMIT],
+    buckets: u32,
+) -> Answer
+    requires { ⌜ buckets ≤ bucketLimit ⌝ }
+    ensures { λ r. ⌜ ((p : Plan) → p .buckets ≡ buckets → p .left ≡ now (lefts .entry) → p .right ≡ now (rights .entry)
+        → r ≡ firstThatFits (lt? high low) (lt? (chosenBucket p low high) buckets) (chosenBucket p low high) wide spent) ⌝ }
+{
+    if low > high {
+        return Answer::Crossed;
+    }
+    let j = chosen_bucket(lefts, rights, buckets, low, high);
+    if j < buckets {
+        return Answer::Decided(j + 1);
+    }
+    if wide {
+        return Answer::Wide;
+    }
+    if spent {
+        return Answer::Spent;
+    }
+    Answer::Open
+}
+
+// The answer to a state, where the plan is accepted.
 pub fn answer_of(p: Plan, s: State) -> Answer
     requires { ⌜ (p .count ≤ countLimit) × (p .buckets ≤ bucketLimit) ⌝ }
     ensures { λ r. ⌜ r ≡ answerOf p s ⌝ }
 {
     let v = interval_of(p, s);
-    if v.low > v.high {
-        return Answer::Crossed;
-    }
-    let j = chosen_bucket(p, v.low, v.high);
-    if j < p.buckets {
-        return Answer::Decided(j + 1);
-    }
-    if any_wide(p, s) {
-        return Answer::Wide;
-    }
-    if s.n == p.horizon {
-        return Answer::Spent;
-    }
-    Answer::Open
+    let wide = any_wide(p, s);
+    first_that_fits(
+        v.low,
+        v.high,
+        wide,
+        s.n == p.horizon,
+        &p.left,
+        &p.right,
+        p.buckets,
+    )
 }

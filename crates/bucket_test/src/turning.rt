@@ -43,9 +43,10 @@ fn walked_on(w: Walked, n: u32, ones: u32) -> Threshold
     }
 }
 
-// The turn of one threshold a at draw n, with e = E(n): an open one walks one step, a settled one and its part stay.
+// The turn of one threshold a at draw n, with e = E(n), in the 769 words of its part: an open one walks one step, a settled one and its
+// part stay.
 fn turn(t: Threshold, part: &mut [u64], a: u32, e: u64, n: u32, ones: u32) -> Threshold
-    requires { ⌜ MayTurn a e (t .mark) t (now part) ⌝ }
+    requires { ⌜ MayTurn a e (t .mark) t (now part) × (length (now part) ≡ wide) ⌝ }
     ensures { λ r. ⌜
         (r ≡ turnRecord a e n ones (t .mark) t (now (part .entry)))
         × (now (part .exit) ≡ turnPart a e n ones (t .mark) t (now (part .entry)))
@@ -63,7 +64,7 @@ fn turn(t: Threshold, part: &mut [u64], a: u32, e: u64, n: u32, ones: u32) -> Th
     }
 }
 
-// The same, but behind an open one's new live masses its part is left as it comes.
+// The same in a part of any length with a word more than an open one's live masses: behind its new ones the part is left as it comes.
 pub fn turn_front(t: Threshold, part: &mut [u64], a: u32, e: u64, n: u32, ones: u32) -> Threshold
     requires { ⌜ MayTurn a e (t .mark) t (now part) ⌝ }
     ensures { λ r. ⌜

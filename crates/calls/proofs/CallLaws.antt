@@ -1,39 +1,40 @@
--- What the calls return and leave, way out by way out (specs/Calls).
+-- What a draw on saved bytes returns and leaves, way out by way out (specs/Calls).
 use mathlib.Core.Path.{_≡_, refl, sym, ap, _∙_}
 use mathlib.Core.Bool.{Bool, true, false}
 use mathlib.Core.Logic.{_⊎_, inl, inr}
-use mathlib.Core.List.{List, [], _∷_, _++_}
-use Prim.Native.Nat.{ℕ, zero, suc, _+_, _*_, _≤_, _<_}
+use mathlib.Core.List.{List, [], _∷_}
+use Prim.Native.Nat.{ℕ, zero, suc, _≤_, _<_}
 use native.Mathlib.Omega.{arith}
-use lib.ListN.{length}
 use Rattle.walk.specs.Numbers.{le?, lt?}
-use Rattle.walk.specs.Units.{wide}
-use Rattle.walk.proofs.Tests.{le?-sound, le?-complete, le?-fails}
+use Rattle.walk.specs.Units.{million, horizonLimit}
+use Rattle.walk.proofs.Tests.{le?-complete, le?-fails}
 use Rattle.plan.specs.Places.{eq?, unless, firstRefusal}
-use Rattle.plan.specs.Plan.{planRefusal, Accepted}
+use Rattle.plan.specs.Plan.{countLimit, planRefusal}
 use Rattle.plan.specs.declared.Plan.{Plan}
-use Rattle.plan.proofs.PlaceLaws.{le-or-lt, first-one}
+use Rattle.plan.proofs.PlaceLaws.{le-or-lt, any-cong, largest-cong, smallest-cong}
 use Rattle.plan.proofs.AcceptedLaws.{accepted}
 use Rattle.bucket_choice.specs.Choice.{chosenBucket}
 use Rattle.bucket_test.specs.Words.{wordsFit}
 use Rattle.bucket_test.specs.Turn.{recordAt}
 use Rattle.bucket_test.specs.Answers.{lowOf, highOf, anyWide, firstThatFits, answerOf, isEnding}
-use Rattle.bucket_test.specs.Draw.{Outcome, stateSound, drawRefusalOver, drawRefusal, nextState, nextWords, drawn}
+use Rattle.bucket_test.specs.Draw.{Outcome, drawRefusalOver, drawRefusal, nextState, nextWords, drawn}
+use Rattle.bucket_test.specs.declared.Answer.{Answer}
 use Rattle.bucket_test.specs.declared.State.{State}
+use Rattle.bucket_test.specs.declared.Threshold.{Threshold}
 use Rattle.bucket_test.proofs.PartLaws.{words-say}
-use Rattle.bucket_test.proofs.AnsweringLaws.{rule-with}
-use Rattle.bucket_test.proofs.DrawingLaws.{drawn-by}
-use Rattle.little.specs.Little.{putAt}
-use Rattle.saved_test.specs.Form.{massSize, recordOffset, formSize, formLimit, massesTo, savedSize, header, recordEntries, massEntries}
+use Rattle.bucket_test.proofs.AnsweringLaws.{rule-with, rule-of}
+use Rattle.bucket_test.proofs.DrawingLaws.{early, drawn-by}
+use Rattle.bucket_test.proofs.OneStep.{drawn-says}
+use Rattle.little.specs.Little.{field}
+use Rattle.saved_test.specs.Form.{drawsField}
 use Rattle.saved_test.specs.Reading.{recordIn, stateIn, wordsIn, formFits}
-use Rattle.saved_test.proofs.Judged.{masses-few}
 use Rattle.saved_test.proofs.HeldLaws.{record-held, words-held}
-use Rattle.saved_test.proofs.ReadingLaws.{form-known, form-sized, part-few}
-use Rattle.saved_test.proofs.WritingLaws.{form-put}
-use Rattle.calls.specs.Calls.{answerNumber, roomRefusal, calledBy, putBy, drawnOn, Judged}
-use Rattle.calls.proofs.TurnLaws.{few, grows}
+use Rattle.calls.specs.Calls.{answerNumber, roomRefusal, calledBy, drawnOn}
+use Rattle.calls.specs.Inner.{Seen, outcome, Took}
+use Rattle.calls.specs.declared.Standing.{Standing}
+use Rattle.calls.specs.declared.Taken.{Taken}
 
--- ---- numbers of answers
+-- ---- answers
 
 -- the number of the answer rule's answer, with one of 16 buckets
 pub rule-small : (p : Plan) (s : State) → p .buckets ≤ 16 → answerNumber (answerOf p s) ≤ 140
@@ -48,97 +49,95 @@ rule-small p s most =
     go false j (inl h) false false = rw (le?-fails (suc j) (p .buckets) (omega arith)) (omega arith)
     go false j (inr h) w e = rw (le?-complete (suc j) (p .buckets) h) (omega arith)
 
--- ---- the room for the new form
+-- the answer to a state whose records stand so
+answer-seen : (p : Plan) (s : State) (records : ℕ → Threshold) → ((i : ℕ) → i < p .count → recordAt s i ≡ records i) → (st : Standing)
+    → Seen (p .thresholds) (p .count) records st → (spent : Bool) → spent ≡ eq? (s .n) (p .horizon)
+    → let j = chosenBucket p (st .low) (st .high) in firstThatFits (lt? (st .high) (st .low)) (lt? j (p .buckets)) j (st .wide) spent ≡ answerOf p s
+unfolding lowOf highOf anyWide
+answer-seen p s records same st h spent e =
+    rule-of p s (h .low ∙ largest-cong (p .count) _ _ 0 (λ i l. rw (same i l))) (h .high ∙ smallest-cong (p .count) _ _ million (λ i l. rw (same i l)))
+    (h .wide ∙ any-cong (p .count) _ _ (λ i l. rw (same i l))) e
 
-module _ (p : Plan) (bytes : List ℕ) (s : State) (d : ℕ) (j : Judged p bytes s d) where
+module _ (p : Plan) (bytes : List ℕ) (d : ℕ) (lent : List ℕ) (good : planRefusal p ≡ 0) where
+  abbrev s : State
+  s = stateIn p bytes
+
   abbrev ws : List ℕ
   ws = wordsIn p bytes
 
-  abbrev next : State
-  next = nextState p s ws d
+  n-in : stateIn p bytes .n ≡ field 4 drawsField bytes
+  unfolding stateIn
+  n-in = refl
 
-  ok : Accepted p
-  ok = accepted p .0 (j .plan)
+  -- before the draw
+  pub answer-before : (st : Standing) → Seen (p .thresholds) (p .count) (recordIn bytes) st → (n : ℕ) → n ≡ field 4 drawsField bytes → (spent : Bool)
+      → spent ≡ eq? n (p .horizon)
+      → let j = chosenBucket p (st .low) (st .high) in firstThatFits (lt? (st .high) (st .low)) (lt? j (p .buckets)) j (st .wide) spent ≡ answerOf p s
+  answer-before st h n n-is spent e =
+      answer-seen p s (recordIn bytes) (record-held p bytes (accepted p .0 good .count-range .1)) st h spent
+      (e ∙ ap (λ (m : ℕ). eq? m (p .horizon)) (n-is ∙ sym n-in))
 
-  pub old-small : length bytes ≤ formLimit
-  unfolding formSize recordOffset wide
-  old-small =
-      let masses = masses-few (recordIn bytes) (p .count) (λ i l. part-few bytes (p .count) i l (form-known p bytes (j .form)) (form-sized p bytes (j .form))) in
-      omega (arith, form-sized p bytes (j .form), masses, few p bytes s d j)
+  -- ---- the ways out
 
-  masses-grow : (k : ℕ) → k ≤ p .count → massesTo (recordAt next) k ≤ massesTo (recordIn bytes) k + k
-  unfolding massesTo
-  masses-grow zero h = omega arith
-  masses-grow (suc k) h =
-      let held : recordAt s k ≡ recordIn bytes k = ap (λ (z : State). recordAt z k) (j .state) ∙ record-held p bytes (few p bytes s d j) k (omega arith) in
-      let g = rw held at (grows p bytes s d j k (omega arith) .1) in
-      omega (arith, masses-grow k (omega arith), g)
-
-  pub size-grows : savedSize p next ≤ length bytes + massSize * p .count
-  unfolding formSize
-  size-grows = omega (arith, form-sized p bytes (j .form), masses-grow (p .count) (omega arith))
-
-  -- ---- a draw that has been judged
-
-  abbrev Puts : List ℕ → ℕ → List ℕ → Type 0
-  Puts lent r after = (r ≡ putBy p (drawn p s ws d) lent .number) × (after ≡ putBy p (drawn p s ws d) lent .bytes)
-
-  pub puts-12 : (lent : List ℕ) → le? (savedSize p next) (length lent) ≡ false → Puts lent 12 lent
-  puts-12 lent e = rw (drawn-by p s ws d 0 (j .draw), e) (refl, refl)
-
-  pub puts-form : (lent : List ℕ) → le? (savedSize p next) (length lent) ≡ true → (r : ℕ) → r ≡ answerNumber (answerOf p next) → (b₁ b₂ : List ℕ)
-      → b₁ ≡ putAt (recordOffset (p .count)) (massEntries p next (nextWords p s ws d)) lent → b₂ ≡ putAt 0 (header p next ++ recordEntries p next) b₁
-      → Puts lent r b₂
-  unfolding massEntries recordOffset formSize
-  puts-form lent e r number b₁ b₂ f g =
-      let long = le?-sound (savedSize p next) (length lent) e in
-      rw (drawn-by p s ws d 0 (j .draw), e) (number, form-put p next (nextWords p s ws d) lent b₁ b₂ f g (omega arith))
-
--- ---- the refusals of a draw, in their order
-
-module _ (p : Plan) (bytes : List ℕ) (s : State) (d : ℕ) (good : planRefusal p ≡ 0) where
-  fits : wordsFit p (wordsIn p bytes) ≡ true
-  fits = words-say p (wordsIn p bytes) .1 (words-held p bytes)
-
-  pub refused-9 : 1 < d → 9 ≡ drawRefusal p s (wordsIn p bytes) d
-  unfolding drawRefusalOver
-  refused-9 h = rw (good, fits, le?-fails d 1 h)
-
-  module _ (bit : d ≤ 1) where
-    pub refused-10 : isEnding (answerOf p s) ≡ true → 10 ≡ drawRefusal p s (wordsIn p bytes) d
-    unfolding drawRefusalOver
-    refused-10 e = rw (good, fits, le?-complete d 1 bit, e)
-
-    pub refused-by : isEnding (answerOf p s) ≡ false → (b : Bool) → stateSound p s (wordsIn p bytes) ≡ b → unless b 11 ≡ drawRefusal p s (wordsIn p bytes) d
-    unfolding drawRefusalOver
-    refused-by e true h = rw (good, fits, le?-complete d 1 bit, e, h)
-    refused-by e false h = rw (good, fits, le?-complete d 1 bit, e, h)
-
--- ---- a draw on saved bytes, way out by way out
-
-module _ (p : Plan) (bytes : List ℕ) (d : ℕ) (lent : List ℕ) where
   abbrev Hands : ℕ → List ℕ → Type 0
   Hands r after = (r ≡ drawnOn 0 p bytes d lent .number) × (after ≡ drawnOn 0 p bytes d lent .bytes)
 
-  abbrev outcome : Outcome
-  outcome = drawn p (stateIn p bytes) (wordsIn p bytes) d
+  fits : wordsFit p ws ≡ true
+  fits = words-say p ws .1 (words-held p bytes)
 
   pub hands-15 : formFits p bytes ≡ false → Hands 15 lent
   hands-15 e = rw e (refl, refl)
 
-  module _ (form : formFits p bytes ≡ true) (s : State) (is : s ≡ stateIn p bytes) (r : ℕ) (refusal : r ≡ drawRefusal p s (wordsIn p bytes) d) where
-    r-is : drawRefusal p (stateIn p bytes) (wordsIn p bytes) d ≡ r
-    r-is = sym (refusal ∙ ap (λ (z : State). drawRefusal p z (wordsIn p bytes) d) is)
+  module _ (form : formFits p bytes ≡ true) where
+    pub hands-9 : 1 < d → Hands 9 lent
+    unfolding drawRefusalOver
+    hands-9 h = rw (form, good, fits, le?-fails d 1 h) (refl, refl)
 
-    pub hands-some : ¬ (r ≡ 0) → Hands r lent
-    hands-some n = rw (form, r-is) (go r n)
-      where
-        go : (q : ℕ) → ¬ (q ≡ 0)
-            → (q ≡ calledBy (firstRefusal (q ∷ roomRefusal p outcome lent ∷ [])) p outcome lent .number)
-            × (lent ≡ calledBy (firstRefusal (q ∷ roomRefusal p outcome lent ∷ [])) p outcome lent .bytes)
-        go zero n = absurd (n refl)
-        go (suc q) n = (refl, refl)
+    pub hands-10 : d ≤ 1 → isEnding (answerOf p s) ≡ true → Hands 10 lent
+    unfolding drawRefusalOver
+    hands-10 bit e = rw (form, good, fits, le?-complete d 1 bit, e) (refl, refl)
 
-    pub hands-put : r ≡ 0 → (q : ℕ) (after : List ℕ)
-        → (q ≡ putBy p (drawn p s (wordsIn p bytes) d) lent .number) × (after ≡ putBy p (drawn p s (wordsIn p bytes) d) lent .bytes) → Hands q after
-    hands-put none q after h = rw (form, r-is, none, first-one (roomRefusal p outcome lent)) (rw is at h)
+    module _ (r : Taken) (after : List ℕ) (t : Took p bytes d lent r after) where
+      by-refusal : (q : ℕ) → r .refusal ≡ q → (calledBy q p (outcome p bytes d lent) lent .number ≡ drawnOn 0 p bytes d lent .number)
+          × (after ≡ drawnOn 0 p bytes d lent .bytes)
+      by-refusal q e =
+          let same : firstRefusal (drawRefusal p s ws d ∷ roomRefusal p (outcome p bytes d lent) lent ∷ []) ≡ q = sym (t .refused) ∙ e in
+          rw (form, same) (refl, rw e at (t .written))
+
+      pub hands-refused : ¬ (r .refusal ≡ 0) → Hands (r .refusal) after
+      hands-refused n = go (r .refusal) refl n
+        where
+          go : (q : ℕ) → r .refusal ≡ q → ¬ (q ≡ 0) → Hands q after
+          go zero e n = absurd (n refl)
+          go (suc q) e n = by-refusal (suc q) e
+
+      module _ (none : r .refusal ≡ 0) where
+        taken : drawRefusal p s ws d ≡ 0
+        taken = go (drawRefusal p s ws d) (roomRefusal p (outcome p bytes d lent) lent) (sym (t .refused) ∙ none)
+          where
+            go : (a b : ℕ) → firstRefusal (a ∷ b ∷ []) ≡ 0 → a ≡ 0
+            go zero b e = refl
+            go (suc a) b e = absurd (omega arith)
+
+        abbrev next : State
+        next = nextState p s ws d
+
+        drawn-is : outcome p bytes d lent ≡ record { answer = answerOf p next; state = next; words = nextWords p s ws d }
+        drawn-is = drawn-by p s ws d 0 taken
+
+        pub took-early : field 4 drawsField bytes < horizonLimit
+        unfolding stateIn
+        took-early = let h = drawn-says p s ws d taken in early p s ws (h .0) (h .1) (h .2) (h .3)
+
+        -- after the draw
+        pub answer-after : (n : ℕ) → n ≡ suc (field 4 drawsField bytes) → (spent : Bool) → spent ≡ eq? n (p .horizon)
+            → let j = chosenBucket p (r .low) (r .high) in firstThatFits (lt? (r .high) (r .low)) (lt? j (p .buckets)) j (r .wide) spent ≡ answerOf p next
+        unfolding nextState
+        answer-after n n-is spent e =
+            answer-seen p next (recordAt next) (λ i l. refl) _ (rw drawn-is at (t .standing none)) spent
+            (e ∙ ap (λ (m : ℕ). eq? m (p .horizon)) (n-is ∙ ap suc (sym n-in)))
+
+        pub hands-answer : (a : Answer) → a ≡ answerOf p next → (q : ℕ) → q ≡ answerNumber a → Hands q after
+        hands-answer a is q number =
+            let h = by-refusal 0 none in
+            (number ∙ ap answerNumber (is ∙ ap (λ (o : Outcome). o .answer) (sym drawn-is)) ∙ h .0, h .1)

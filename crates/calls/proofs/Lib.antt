@@ -3,5 +3,6 @@ mod PlanRead
 pub mod Chain
 -- What the code leaves to do.
 mod TurnLaws
+mod Taking
 mod CallLaws
 mod BeginLaws

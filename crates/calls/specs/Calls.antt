@@ -1,16 +1,12 @@
 -- The two calls from C, over bytes and numbers only (saved 6).
-use mathlib.Core.Path.{_≡_}
-use mathlib.Core.Bool.{true}
 use mathlib.Core.List.{List, [], _∷_, _++_}
 use Prim.Native.Nat.{ℕ, zero, suc, _+_, _*_}
 use lib.ListN.{length, drop, replicate}
 use Rattle.walk.specs.Numbers.{le?}
 use Rattle.walk.specs.Units.{wide}
 use Rattle.plan.specs.Places.{unless, firstRefusal}
-use Rattle.plan.specs.Plan.{planRefusal}
 use Rattle.plan.specs.declared.Plan.{Plan}
 use Rattle.bucket_test.specs.Draw.{Outcome, begun, drawRefusal, drawn}
-use Rattle.bucket_test.specs.declared.State.{State}
 use Rattle.bucket_test.specs.declared.Answer.{Answer}
 use Rattle.bucket_test.specs.declared.Answer.the-variants.{Open, Decided, Crossed, Wide, Spent, Refused}
 use Rattle.stored_plan.specs.Reading.{decoded}
@@ -40,10 +36,6 @@ abbrev pub calledBy : ℕ → Plan → Outcome → List ℕ → Called
 calledBy zero p o lent = record { number = answerNumber (o .answer); bytes = savedForm p (o .state) (o .words) ++ drop (savedSize p (o .state)) lent }
 calledBy (suc r) p o lent = record { number = suc r; bytes = lent }
 
--- an outcome that only 12 can refuse
-abbrev pub putBy : Plan → Outcome → List ℕ → Called
-putBy p o lent = calledBy (roomRefusal p o lent) p o lent
-
 -- ---- under a plan that was read from plan bytes with the refusal r, 0 for none
 
 -- the call's own words, of the right number: a beginning writes them all
@@ -56,20 +48,14 @@ begunOn r p lent =
     let o = begun p (ownWords p) in
     calledBy (firstRefusal (r ∷ roomRefusal p o lent ∷ [])) p o lent
 
--- a draw to the test that saved bytes hold: r, 15, then 9, 10, 11, then 12
+-- a draw to the test that saved bytes hold: r, 15, then 9, 10, 11, then 12; plan and 8, which a draw judges too, never apply here: the plan was read,
+-- and `wordsIn` has the right number of words
 abbrev pub drawnOn : ℕ → Plan → List ℕ → ℕ → List ℕ → Called
 drawnOn r p saved d lent =
     let s = stateIn p saved in
     let words = wordsIn p saved in
     let o = drawn p s words d in
     calledBy (firstRefusal (r ∷ unless (formFits p saved) 15 ∷ drawRefusal p s words d ∷ roomRefusal p o lent ∷ [])) p o lent
-
--- what has been judged of such a draw before it is taken
-pub record Judged (p : Plan) (saved : List ℕ) (s : State) (d : ℕ) : Type 0 where
-  pub plan : planRefusal p ≡ 0
-  pub form : formFits p saved ≡ true
-  pub state : s ≡ stateIn p saved
-  pub draw : drawRefusal p s (wordsIn p saved) d ≡ 0
 
 -- ---- the calls
 

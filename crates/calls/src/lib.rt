@@ -2,12 +2,42 @@
 mod answers;
 mod beginning;
 mod drawing;
+mod stands;
+mod turns;
 
+use answers::answer_number;
 use beginning::begin_on;
-use drawing::draw_on;
+use bucket_test::answering::first_that_fits;
+use bucket_test::drawing::is_ending;
+use drawing::take_in;
+use little::numbers::read_u32;
+use saved_test::form::DRAWS_FIELD;
+use saved_test::reading::form_fits;
+use stands::standing_in;
 use stored_plan::reading::read_plan;
 ghost use mathlib.Core.Path.{_≡_};
 ghost use Rattle.calls.specs.Calls.{calledBegin, calledDraw};
+
+// How the records of a test stand to the answer rule: the interval, in millionths, and whether an open threshold is wide.
+pub struct Standing {
+    pub low: u32,
+    pub high: u32,
+    pub wide: bool,
+}
+
+// The masses that the turns left, and how the new records stand.
+pub struct Turned {
+    pub masses: usize,
+    pub standing: Standing,
+}
+
+// The refusal, 11 or 12, or 0 and how the new records stand; number by number, since a copy of what was stored by parts waits for them.
+pub struct Taken {
+    pub refusal: u32,
+    pub low: u32,
+    pub high: u32,
+    pub wide: bool,
+}
 
 // Any plan bytes and any lent bytes may be handed in.
 #[no_mangle]
@@ -36,5 +66,50 @@ pub extern "C" fn vimorake_draw(plan: &[u8], saved: &[u8], draw: u32, lent: &mut
     if read.refusal != 0 {
         return read.refusal;
     }
-    draw_on(read.plan, saved, draw, lent)
+    let count = read.plan.count as usize;
+    if !form_fits(saved, count) {
+        return 15;
+    }
+    if draw > 1 {
+        return 9;
+    }
+    let buckets = read.plan.buckets;
+    let horizon = read.plan.horizon;
+    let n = read_u32(saved, DRAWS_FIELD);
+    let before = standing_in(&read.plan.thresholds, count, saved);
+    let answer_before = first_that_fits(
+        before.low,
+        before.high,
+        before.wide,
+        n == horizon,
+        &read.plan.left,
+        &read.plan.right,
+        buckets,
+    );
+    if is_ending(answer_before) {
+        return 10;
+    }
+    let taken = take_in(
+        &read.plan.thresholds,
+        &read.plan.allowances,
+        count,
+        read.plan.delay,
+        horizon,
+        saved,
+        draw,
+        lent,
+    );
+    if taken.refusal != 0 {
+        return taken.refusal;
+    }
+    let answer = first_that_fits(
+        taken.low,
+        taken.high,
+        taken.wide,
+        n + 1 == horizon,
+        &read.plan.left,
+        &read.plan.right,
+        buckets,
+    );
+    answer_number(answer)
 }

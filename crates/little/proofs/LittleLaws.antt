@@ -4,10 +4,10 @@ use mathlib.Core.List.{List, [], _∷_, _++_, append-nil}
 use mathlib.Core.Logic.{⊎-elim}
 use Prim.Native.Nat.{ℕ, zero, suc, _+_, _*_, _/_, _%_, _<_, _≤_, _^_}
 use native.Mathlib.Nat.{mod-add-div, mod-eq-of-lt, div-lt-iff-lt-mul, add-mul-div-left, div-eq-of-lt, add-mul-mod-self-left}
-use native.Mathlib.Nat.{pow-suc, pow-le-pow-right}
+use native.Mathlib.Nat.{pow-suc, pow-succ', mul-assoc}
 use native.Mathlib.Omega.{arith}
 use lib.ListN.{length, take, drop, getD, length-take, length-drop, take-append-drop, List·getD-eq-default}
-use lib.Seq.{drop-cons, getD-take, getD-drop, length-take-le, take-append-le, drop-append-le, drop-append-add, take-at}
+use lib.Seq.{drop-cons, getD-take, getD-drop, length-take-le, take-add, drop-drop, take-append-le, drop-append-le, drop-append-add, take-at}
 use Rattle.plan.proofs.PlaceLaws.{le-or-lt}
 use Rattle.little.specs.Little.{toLE, fromLE, field, Bytes}
 
@@ -50,22 +50,26 @@ module _ (bytes : List ℕ) (each : Bytes bytes) (width at : ℕ) where
       let l : length (take width (drop at bytes)) ≡ width = length-take-le width (drop at bytes) (omega (arith, length-drop at bytes)) in
       rw l at (to-from (take width (drop at bytes)) field-bytes)
 
--- ---- one byte more, at the low end
+-- ---- a number by its lower and its upper part
 
-pub more-lt : (m v b : ℕ) → v < 256 ^ m → b < 256 → v * 256 + b < 256 ^ suc m
-more-lt m v b h g = rw (pow-suc 256 m) (omega arith)
-
-pub pow-le : (m n : ℕ) → m ≤ n → 256 ^ m ≤ 256 ^ n
-pow-le m n h = pow-le-pow-right {n = 256} (omega arith) {i = m} {j = n} h
-
-pub from-cons : (bytes : List ℕ) (at width i : ℕ) → i < width → at + width ≤ length bytes
-    → fromLE (drop i (take width (drop at bytes))) ≡ fromLE (drop (suc i) (take width (drop at bytes))) * 256 + getD bytes (at + i) 0
+from-join : (xs ys : List ℕ) → fromLE (xs ++ ys) ≡ fromLE xs + 256 ^ length xs * fromLE ys
 unfolding fromLE
-from-cons bytes at width i h g =
-    let l = take width (drop at bytes) in
-    let len : length l ≡ width = length-take-le width (drop at bytes) (omega (arith, length-drop at bytes)) in
-    let low = getD-take width (drop at bytes) i 0 h ∙ getD-drop at bytes i 0 in
-    ap fromLE (drop-cons l i 0 (omega arith) ∙ ap (λ (b : ℕ). b ∷ drop (suc i) l) low) ∙ omega arith
+from-join [] ys = omega arith
+from-join (b ∷ xs) ys =
+    let shifted : 256 ^ suc (length xs) * fromLE ys ≡ 256 * (256 ^ length xs * fromLE ys) = rw (pow-succ' 256 (length xs), mul-assoc) refl in
+    rw (from-join xs ys, shifted) (omega arith)
+
+pub field-join : (m n at : ℕ) (bytes : List ℕ) → at + m ≤ length bytes
+    → field (m + n) at bytes ≡ field m at bytes + 256 ^ m * field n (at + m) bytes
+unfolding field
+field-join m n at bytes h =
+    let low = take m (drop at bytes) in
+    let l : length low ≡ m = length-take-le m (drop at bytes) (omega (arith, length-drop at bytes)) in
+    rw (take-add m n (drop at bytes), drop-drop m at bytes, from-join low (take n (drop (at + m) bytes)), l)
+
+pub field-byte : (at : ℕ) (bytes : List ℕ) → at < length bytes → field 1 at bytes ≡ getD bytes at 0
+unfolding field fromLE
+field-byte at bytes h = rw (drop-cons bytes at 0 h) (omega arith)
 
 -- ---- fields of joined and cut lists
 

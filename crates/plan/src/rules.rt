@@ -33,15 +33,15 @@ pub fn counts_fit(count: u32, buckets: u32) -> bool
     within(count, 1, MOST_THRESHOLDS) && within(buckets, 2, MOST_BUCKETS)
 }
 
-// Rule 2: each threshold in its range and above the one before. Judged after rule 1, which keeps the places inside the array.
-fn thresholds_rise(p: Plan) -> bool
-    requires { ⌜ p .count ≤ countLimit ⌝ }
-    ensures { λ r. ⌜ r ≡ rule2 p ⌝ }
+// Rule 2 of a plan with the first `count` of these thresholds, of at most ten: each in its range and above the one before. Judged after rule 1,
+// which keeps the places inside the array. The rules below take only the numbers that they judge: a plan by value is copied at each call.
+fn thresholds_rise(ts: &[u32; COUNT_LIMIT], count: usize) -> bool
+    requires { ⌜ count ≤ countLimit ⌝ }
+    ensures { λ r. ⌜ ((p : Plan) → p .count ≡ count → p .thresholds ≡ now (ts .entry) → r ≡ rule2 p) ⌝ }
 {
-    let count = p.count as usize;
     let mut before = 0u32;
     for i in 0..count {
-        let t = p.thresholds[i];
+        let t = ts[i];
         if t <= before {
             return false;
         }
@@ -70,14 +70,13 @@ fn thresholds_apart(ts: &[u32; COUNT_LIMIT], count: usize) -> bool
     true
 }
 
-// Rule 3: each allowance in its range, below one half. Judged after rule 1.
-fn allowances_fit(p: Plan) -> bool
-    requires { ⌜ p .count ≤ countLimit ⌝ }
-    ensures { λ r. ⌜ r ≡ rule3 p ⌝ }
+// Rule 3 of a plan with the first `count` of these allowances, of at most ten: each in its range, below one half. Judged after rule 1.
+fn allowances_fit(xs: &[u64; COUNT_LIMIT], count: usize) -> bool
+    requires { ⌜ count ≤ countLimit ⌝ }
+    ensures { λ r. ⌜ ((p : Plan) → p .count ≡ count → p .allowances ≡ now (xs .entry) → r ≡ rule3 p) ⌝ }
 {
-    let count = p.count as usize;
     for i in 0..count {
-        let x = p.allowances[i];
+        let x = xs[i];
         if x < 1 {
             return false;
         }
@@ -88,11 +87,11 @@ fn allowances_fit(p: Plan) -> bool
     true
 }
 
-// Rule 4: the delay and the horizon in their ranges.
-fn times_fit(p: Plan) -> bool
-    ensures { λ r. ⌜ r ≡ rule4 p ⌝ }
+// Rule 4 of a plan with this delay and this horizon: both in their ranges.
+fn times_fit(delay: u32, horizon: u32) -> bool
+    ensures { λ r. ⌜ ((p : Plan) → p .delay ≡ delay → p .horizon ≡ horizon → r ≡ rule4 p) ⌝ }
 {
-    within(p.delay, 1, DELAY_LIMIT) && within(p.horizon, 1, HORIZON_LIMIT)
+    within(delay, 1, DELAY_LIMIT) && within(horizon, 1, HORIZON_LIMIT)
 }
 
 // Whether x is one of the first n numbers of a table.
@@ -137,17 +136,22 @@ fn bucket_fits(ts: &[u32; COUNT_LIMIT], count: usize, left: u32, right: u32) -> 
     is_permitted(ts, count, left) && is_permitted(ts, count, right)
 }
 
-// Rule 5: each bucket fits. Judged after rule 1.
-fn buckets_fit(p: Plan) -> bool
-    requires { ⌜ (p .count ≤ countLimit) × (p .buckets ≤ bucketLimit) ⌝ }
-    ensures { λ r. ⌜ r ≡ rule5 p ⌝ }
+// Rule 5 of a plan with the first `count` of these thresholds, of at most ten, and the first b of these buckets, of at most sixteen: each bucket
+// fits. Judged after rule 1.
+fn buckets_fit<'a>(
+    ts: &'a [u32; COUNT_LIMIT],
+    count: usize,
+    ls: &'a [u32; BUCKET_LIMIT],
+    rs: &'a [u32; BUCKET_LIMIT],
+    b: usize,
+) -> bool
+    requires { ⌜ (count ≤ countLimit) × (b ≤ bucketLimit) ⌝ }
+    ensures { λ r. ⌜ ((p : Plan) → p .count ≡ count → p .thresholds ≡ now (ts .entry) → p .buckets ≡ b → p .left ≡ now (ls .entry) → p .right ≡ now (rs .entry) → r ≡ rule5 p) ⌝ }
 {
-    let count = p.count as usize;
-    let buckets = p.buckets as usize;
-    for j in 0..buckets {
-        let left = p.left[j];
-        let right = p.right[j];
-        if !bucket_fits(&p.thresholds, count, left, right) {
+    for j in 0..b {
+        let left = ls[j];
+        let right = rs[j];
+        if !bucket_fits(ts, count, left, right) {
             return false;
         }
     }
@@ -200,19 +204,25 @@ pub fn plan_refusal(p: Plan) -> u32
     if !counts_fit(p.count, p.buckets) {
         return 1;
     }
-    if !thresholds_rise(p) {
+    if !thresholds_rise(&p.thresholds, p.count as usize) {
         return 2;
     }
     if !thresholds_apart(&p.thresholds, p.count as usize) {
         return 14;
     }
-    if !allowances_fit(p) {
+    if !allowances_fit(&p.allowances, p.count as usize) {
         return 3;
     }
-    if !times_fit(p) {
+    if !times_fit(p.delay, p.horizon) {
         return 4;
     }
-    if !buckets_fit(p) {
+    if !buckets_fit(
+        &p.thresholds,
+        p.count as usize,
+        &p.left,
+        &p.right,
+        p.buckets as usize,
+    ) {
         return 5;
     }
     // Rule 6: some bucket begins at 0, and past it nothing is left out.

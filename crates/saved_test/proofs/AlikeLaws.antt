@@ -27,7 +27,7 @@ use Rattle.saved_test.specs.Alike.{Alike}
 -- ---- one threshold
 
 -- the row of a record asks for no word behind its live masses
-gap-covers : (z : ℤ) (u : ℕ) → u - firstAbove z ≤ countsBetween z u
+pub gap-covers : (z : ℤ) (u : ℕ) → u - firstAbove z ≤ countsBetween z u
 unfolding countsBetween firstAbove
 gap-covers (pos b) u = omega arith
 gap-covers (negsuc b) u = omega arith

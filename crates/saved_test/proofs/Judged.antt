@@ -16,6 +16,7 @@ use Rattle.walk.specs.Record.{firstAbove, rowOf}
 use Rattle.walk.specs.Soundness.{boundariesSound, isSound}
 use Rattle.walk.specs.declared.Mark.{Mark}
 use Rattle.walk.specs.declared.Mark.the-variants.{Open, Above, AtMost}
+use Rattle.walk.specs.declared.Walked.{Walked}
 use Rattle.walk.proofs.Tests.{and-true, le?-sound}
 use Rattle.walk.proofs.Lists.{all-getD}
 use Rattle.walk.proofs.SoundnessLaws.{boundaries-say}
@@ -50,6 +51,10 @@ unfolding countsBetween below
 gap-below zero u = omega arith
 gap-below (suc f) u = refl
 
+-- .. of a record whose lower boundary is no less than -1
+pub gap-live : (w : Walked) → w .lower ≡ below (firstAbove (w .lower)) → countsBetween (w .lower) (w .upper) ≡ w .upper - firstAbove (w .lower)
+gap-live w signed = ap (λ (z : ℤ). countsBetween z (w .upper)) signed ∙ gap-below (firstAbove (w .lower)) (w .upper)
+
 -- after n draws: as many masses as a reading allows, each of them small, and a step that was taken
 pub record Known (n : ℕ) (m : Mark) (t : Threshold) (part : List ℕ) : Type 0 where
   pub few : liveBy m (t .walked) ≤ wide
@@ -63,7 +68,7 @@ known e n S Open t part h =
     let a1 = and-true (boundariesSound e n S (t .walked)) _ h in
     let b = boundaries-say e n S (t .walked) (a1 .0) in
     let f : ℕ = firstAbove (t .walked .lower) in
-    let g : countsBetween (t .walked .lower) (t .walked .upper) ≡ t .walked .upper - f = ap (λ (z : ℤ). countsBetween z (t .walked .upper)) (b .signed) ∙ gap-below f (t .walked .upper) in
+    let g = gap-live (t .walked) (b .signed) in
     record {
       few = omega (arith, g, b .fits);
       count-fits = within-reads 1 wide (countsBetween (t .walked .lower) (t .walked .upper)) .1 (omega (arith, g, b .order), omega (arith, g, b .fits));

@@ -13,7 +13,7 @@ use Rattle.walk.proofs.Tests.{and-true, le?-complete, le?-fails}
 use lib.Dec.{eqb}
 use lib.IntN.{ℤ}
 use Rattle.plan.specs.Places.{eq?, allTo, unless, firstRefusal, joinTo}
-use Rattle.plan.proofs.PlaceLaws.{eq?-complete, eq?-fails, eq-reads, all-reads, first-some, none-both, none-says, last-says}
+use Rattle.plan.proofs.PlaceLaws.{eq?-complete, eq?-fails, eq-reads, all-reads, all-cong, first-some, none-both, none-says, last-says}
 use mir.Syntax.{w32}
 use mir.Val.{toZ, ofZ}
 use mir.ValLaws.{toZ-ofZ, toZ-fits}
@@ -30,7 +30,8 @@ use Rattle.bucket_test.specs.Words.{partAt, wordsFit}
 use Rattle.bucket_test.specs.Turn.{noRecord, recordAt, recordSound, recordSoundAt}
 use Rattle.bucket_test.specs.Draw.{stateSound, noState}
 use Rattle.saved_test.specs.declared.Loaded.{Loaded}
-use Rattle.saved_test.specs.Form.{massSize, recordOffset, formSize, liveCount, massesTo}
+use Rattle.saved_test.specs.Form.{drawsField, onesField, massSize, recordOffset, formSize, liveCount, massesTo}
+use Rattle.saved_test.specs.Inner.{FormFits}
 use Rattle.saved_test.specs.Reading.{markOf, markKnown, recordFrom, recordIn, recordFits, massOffset, partIn, massesIn, headerFits, formFits, stateIn, wordsIn, readRefusal, loaded, wordsAfter}
 use Rattle.saved_test.proofs.AlikeLaws.{sound-by}
 use Rattle.saved_test.proofs.Judged.{masses-cong}
@@ -69,53 +70,47 @@ copy-more d s i h k =
       take-suc s i 0 k,
     ) (sym (append-assoc (take i s) (getD s i 0 ∷ []) (drop (suc i) d)))
 
--- ---- the records that bytes hold, as an array
-
-module _ (p : Plan) (bytes : List ℕ) (records : List Threshold) (are : records ≡ stateIn p bytes .records) (few : p .count ≤ countLimit) where
-  pub record-of : (i : ℕ) → i < p .count → getD records i noRecord ≡ recordIn bytes i
-  record-of i l = ap (λ (rs : List Threshold). getD rs i noRecord) are ∙ record-held p bytes few i l
-
-  pub masses-of-all : massesTo (λ i. getD records i noRecord) (p .count) ≡ massesIn p bytes
-  masses-of-all = masses-cong (λ i. getD records i noRecord) (recordIn bytes) (p .count) record-of
-
 -- ---- refusal 15, test by test
 
-module _ (p : Plan) (bytes : List ℕ) where
-  pub fits-short : length bytes < 24 + 32 * p .count → false ≡ formFits p bytes
+module _ (p : Plan) (bytes : List ℕ) (count : ℕ) (counts : p .count ≡ count) where
+  pub fits-short : length bytes < 24 + 32 * count → false ≡ formFits p bytes
   unfolding formFits formSize recordOffset
   fits-short h = rw (eq?-fails (length bytes) (formSize (p .count) (massesIn p bytes)) (λ e. omega arith))
 
-  module _ (masses : ℕ) (is : masses ≡ massesIn p bytes) where
-    pub fits-size : ¬ (length bytes ≡ 24 + 32 * p .count + 8 * masses) → false ≡ formFits p bytes
+  module _ (masses : ℕ) (is : masses ≡ massesTo (recordIn bytes) count) where
+    masses-are : masses ≡ massesIn p bytes
+    masses-are = rw counts is
+
+    pub fits-size : ¬ (length bytes ≡ 24 + 32 * count + 8 * masses) → false ≡ formFits p bytes
     unfolding formFits formSize recordOffset
-    fits-size n = rw (eq?-fails (length bytes) (formSize (p .count) (massesIn p bytes)) (λ e. n (omega arith)))
+    fits-size n = rw (eq?-fails (length bytes) (formSize (p .count) (massesIn p bytes)) (λ e. n (omega (arith, masses-are))))
 
     abbrev header : Bool
     header =
-        eq? (field 2 0 bytes) (p .count)
+        eq? (field 2 0 bytes) count
         && (eq? (field 2 2 bytes) masses
         && (eq? (field 2 4 bytes) 24
-        && (eq? (field 2 6 bytes) (24 + 32 * p .count)
-        && (eq? (field 4 8 bytes) (24 + 32 * p .count + 8 * masses)
+        && (eq? (field 2 6 bytes) (24 + 32 * count)
+        && (eq? (field 4 8 bytes) (24 + 32 * count + 8 * masses)
         && (eq? (field 2 20 bytes) 32
         && eq? (field 2 22 bytes) 8)))))
 
     header-is : header ≡ headerFits p bytes
     unfolding headerFits formSize recordOffset
-    header-is = rw is
+    header-is = rw (← masses-are, counts)
 
-    module _ (size : length bytes ≡ 24 + 32 * p .count + 8 * masses) where
+    module _ (size : length bytes ≡ 24 + 32 * count + 8 * masses) where
       sized : eq? (length bytes) (formSize (p .count) (massesIn p bytes)) ≡ true
       unfolding formSize recordOffset
-      sized = eq?-complete _ _ (omega arith)
+      sized = eq?-complete _ _ (omega (arith, masses-are))
 
       pub fits-header : header ≡ false → false ≡ formFits p bytes
       unfolding formFits
       fits-header h = rw (sized, sym header-is ∙ h)
 
-      pub fits-records : header ≡ true → (r : Bool) → r ≡ allTo (p .count) (recordFits bytes) → r ≡ formFits p bytes
+      pub fits-records : header ≡ true → (r : Bool) → r ≡ allTo count (recordFits bytes) → r ≡ formFits p bytes
       unfolding formFits
-      fits-records h r e = rw (sized, sym header-is ∙ h) e
+      fits-records h r e = rw (sized, sym header-is ∙ h, counts) e
 
 -- ---- the masses of one threshold, where the form fits
 
@@ -163,12 +158,12 @@ module _ (p : Plan) (bytes : List ℕ) (form : formFits p bytes ≡ true) where
   unfolding formSize recordOffset
   form-long = omega (arith, fitting p bytes form .sized)
 
-  pub form-sized : length bytes ≡ formSize (p .count) (massesTo (recordIn bytes) (p .count))
-  form-sized = fitting p bytes form .sized
-
-  pub form-known : allTo (p .count) (recordFits bytes) ≡ true
+  pub form-held : FormFits (p .count) bytes
   unfolding formFits
-  form-known = and-true (headerFits p bytes) _ (and-true (eq? (length bytes) (formSize (p .count) (massesIn p bytes))) _ form .1) .1
+  form-held = record {
+    records = and-true (headerFits p bytes) _ (and-true (eq? (length bytes) (formSize (p .count) (massesIn p bytes))) _ form .1) .1;
+    sized = fitting p bytes form .sized;
+  }
 
 -- ---- plan, 8 and 15, before the test is judged
 
@@ -197,57 +192,69 @@ form-judged p bytes m =
 
 -- ---- refusal 11, part by part
 
--- the threshold at place i passes
-abbrev pub passes : Plan → List ℕ → State → ℕ → Bool
-passes p bytes s i = recordSoundAt p (wordsIn p bytes) (s .n) (s .ones) i (recordAt s i)
-
--- one threshold of a form that fits, with n masses from an offset on
-module _ (p : Plan) (bytes : List ℕ) (s : State) (good : planRefusal p ≡ 0) (form : formFits p bytes ≡ true) (is : s ≡ stateIn p bytes)
-    (i : ℕ) (l : i < p .count) (n at : ℕ) (live : n ≡ liveCount (recordAt s i)) (here : at ≡ massOffset bytes (p .count) i) where
-  live-held : n ≡ liveCount (recordIn bytes i)
-  live-held =
-      live ∙ ap (λ (z : State). liveCount (recordAt z i)) is
-      ∙ ap (λ (t : Threshold). liveCount t) (record-held p bytes (accepted p .0 good .count-range .1) i l)
-
+-- one threshold, with n masses from an offset on
+module _ (bytes : List ℕ) (count : ℕ) (form : FormFits count bytes) (i : ℕ) (l : i < count) (n at : ℕ) (live : n ≡ liveCount (recordIn bytes i))
+    (here : at ≡ massOffset bytes count i) where
   pub held-few : n ≤ wide
-  held-few = rw live-held (part-few bytes (p .count) i l (form-known p bytes form) (form-sized p bytes form))
+  held-few = rw live (part-few bytes count i l (form .records) (form .sized))
 
   pub held-inside : at + massSize * n ≤ length bytes
-  held-inside = rw (live-held, here) (part-inside bytes (p .count) i l (form-known p bytes form) (form-sized p bytes form))
+  held-inside = rw (live, here) (part-inside bytes count i l (form .records) (form .sized))
 
-  pub held-next : at + massSize * n ≡ massOffset bytes (p .count) (i + 1)
-  held-next = rw (live-held, here) (offset-next bytes (p .count) i)
+  pub held-next : at + massSize * n ≡ massOffset bytes count (i + 1)
+  held-next = rw (live, here) (offset-next bytes count i)
 
-  -- its masses at the front of any part
-  pub held-front : (q q₀ : List ℕ) → q ≡ filled n (column massSize at massSize bytes) q₀ → length q₀ ≡ wide
-      → take n q ≡ take n (partAt i (wordsIn p bytes))
-  held-front q q₀ e size =
+  -- its masses at the front of any part that has room for them
+  pub held-front : (q q₀ : List ℕ) → q ≡ filled n (column massSize at massSize bytes) q₀ → n ≤ length q₀ → take n q ≡ take n (partIn bytes count i)
+  held-front q q₀ e room =
       let f = column massSize at massSize bytes in
-      let whole : filled n f (replicate wide 0) ≡ partAt i (wordsIn p bytes) =
-      part-made bytes (p .count) i n at _ live-held here refl ∙ sym (part-held p bytes i l) in
       ap (take n) e
-      ∙ filled-take n f q₀ (replicate wide 0) (omega (arith, held-few, size)) (omega (arith, held-few, length-replicate {A = ℕ} wide 0))
-      ∙ ap (take n) whole
+      ∙ filled-take n f q₀ (replicate wide 0) room (omega (arith, held-few, length-replicate {A = ℕ} wide 0))
+      ∙ ap (take n) (part-made bytes count i n at (filled n f (replicate wide 0)) live here refl)
 
-  pub held-passes : (q q₀ : List ℕ) → q ≡ filled n (column massSize at massSize bytes) q₀ → length q₀ ≡ wide
-      → recordSound (spendingOf p i (s .n)) (s .n) (s .ones) (recordAt s i .mark) (recordAt s i) q ≡ passes p bytes s i
-  held-passes q q₀ e size =
-      sound-by (recordAt s i) (partAt i (wordsIn p bytes)) q (spendingOf p i (s .n)) (s .n) (s .ones) (recordAt s i .mark)
-      (rw live at (held-front q q₀ e size))
+  pub held-sound : (t : Threshold) → t ≡ recordIn bytes i → (q q₀ : List ℕ) → q ≡ filled n (column massSize at massSize bytes) q₀ → n ≤ length q₀
+      → (e draws ones : ℕ) → recordSound e draws ones (t .mark) t q
+      ≡ recordSound e draws ones (recordIn bytes i .mark) (recordIn bytes i) (partIn bytes count i)
+  held-sound t is q q₀ f room e draws ones =
+      ap (λ (u : Threshold). recordSound e draws ones (u .mark) u q) is
+      ∙ sound-by (recordIn bytes i) (partIn bytes count i) q e draws ones (recordIn bytes i .mark) (rw live at (held-front q q₀ f room))
 
-module _ (p : Plan) (s : State) (words : List ℕ) where
-  pub sound-late : p .horizon < s .n → false ≡ stateSound p s words
+-- what refusal 11 judges of each threshold of a plan
+pub sound-held : (p : Plan) (bytes : List ℕ) (n ones : ℕ) (few : p .count ≤ countLimit) (i : ℕ) (l : i < p .count)
+    → recordSoundAt p (wordsIn p bytes) n ones i (recordAt (stateIn p bytes) i)
+    ≡ recordSound (spendingOf p i n) n ones (recordIn bytes i .mark) (recordIn bytes i) (partIn bytes (p .count) i)
+sound-held p bytes n ones few i l = rw (record-held p bytes few i l, part-held p bytes i l)
+
+-- n and S of the test that bytes hold are judged first, then the thresholds
+module _ (p : Plan) (bytes : List ℕ) (horizon : ℕ) (last : p .horizon ≡ horizon) (n ones : ℕ) (n-is : n ≡ field 4 drawsField bytes)
+    (ones-is : ones ≡ field 4 onesField bytes) where
+  n-held : stateIn p bytes .n ≡ n
+  unfolding stateIn
+  n-held = sym n-is
+
+  ones-held : stateIn p bytes .ones ≡ ones
+  unfolding stateIn
+  ones-held = sym ones-is
+
+  abbrev isSoundIn : Bool
+  isSoundIn = stateSound p (stateIn p bytes) (wordsIn p bytes)
+
+  pub sound-late : horizon < n → false ≡ isSoundIn
   unfolding stateSound
-  sound-late h = rw (le?-fails (s .n) (p .horizon) h)
+  sound-late h = rw (n-held, le?-fails n (p .horizon) (omega arith))
 
-  module _ (early : s .n ≤ p .horizon) where
-    pub sound-ones : s .n < s .ones → false ≡ stateSound p s words
+  module _ (early : n ≤ horizon) where
+    pub sound-ones : n < ones → false ≡ isSoundIn
     unfolding stateSound
-    sound-ones h = rw (le?-complete (s .n) (p .horizon) early, le?-fails (s .ones) (s .n) h)
+    sound-ones h = rw (n-held, ones-held, le?-complete n (p .horizon) (omega arith), le?-fails ones n h)
 
-    pub sound-parts : s .ones ≤ s .n → (b : Bool) → b ≡ allTo (p .count) (λ i. recordSoundAt p words (s .n) (s .ones) i (recordAt s i)) → b ≡ stateSound p s words
+    pub sound-parts : ones ≤ n → p .count ≤ countLimit → (b : Bool)
+        → b ≡ allTo (p .count) (λ i. recordSound (spendingOf p i n) n ones (recordIn bytes i .mark) (recordIn bytes i) (partIn bytes (p .count) i))
+        → b ≡ isSoundIn
     unfolding stateSound
-    sound-parts h b e = rw (le?-complete (s .n) (p .horizon) early, le?-complete (s .ones) (s .n) h) e
+    sound-parts h few b e =
+        rw (n-held, ones-held, le?-complete n (p .horizon) (omega arith), le?-complete ones n h)
+        (e ∙ sym (all-cong (p .count) _ _ (λ i l. sound-held p bytes n ones few i l)))
 
 -- ---- each way out of a reading
 

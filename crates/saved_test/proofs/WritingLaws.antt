@@ -53,25 +53,26 @@ module _ (t : Threshold) (at code step bits : ℕ) (c : code ≡ markCode (t .ma
 
 -- ---- the header, by its four pairs of numbers and the last
 
-module _ (p : Plan) (s : State) (masses : ℕ) (is : masses ≡ savedMasses p s) where
-  pub header-put : (b₀ b₁ b₂ b₃ b₄ b₅ : List ℕ) → b₁ ≡ putAt 0 (toLE 2 (p .count) ++ toLE 2 masses) b₀
-      → b₂ ≡ putAt 4 (toLE 2 24 ++ toLE 2 (24 + 32 * p .count)) b₁
-      → b₃ ≡ putAt 8 (toLE 4 (24 + 32 * p .count + 8 * masses) ++ toLE 4 (s .n)) b₂
-      → b₄ ≡ putAt 16 (toLE 4 (s .ones) ++ toLE 2 32) b₃
+module _ (p : Plan) (s : State) (count masses n ones : ℕ) (counts : p .count ≡ count) (is : savedMasses p s ≡ masses) (draws : s .n ≡ n)
+    (of-them : s .ones ≡ ones) where
+  pub header-put : (b₀ b₁ b₂ b₃ b₄ b₅ : List ℕ) → b₁ ≡ putAt 0 (toLE 2 count ++ toLE 2 masses) b₀
+      → b₂ ≡ putAt 4 (toLE 2 24 ++ toLE 2 (24 + 32 * count)) b₁
+      → b₃ ≡ putAt 8 (toLE 4 (24 + 32 * count + 8 * masses) ++ toLE 4 n) b₂
+      → b₄ ≡ putAt 16 (toLE 4 ones ++ toLE 2 32) b₃
       → b₅ ≡ putAt 22 (toLE 2 8) b₄
       → b₅ ≡ putAt 0 (header p s) b₀
   unfolding header formSize recordOffset
   header-put b₀ b₁ b₂ b₃ b₄ b₅ e1 e2 e3 e4 e5 =
-      let one = toLE 2 (p .count) ++ toLE 2 masses in
-      let two = toLE 2 24 ++ toLE 2 (24 + 32 * p .count) in
-      let three = toLE 4 (24 + 32 * p .count + 8 * masses) ++ toLE 4 (s .n) in
-      let four = toLE 4 (s .ones) ++ toLE 2 32 in
+      let one = toLE 2 count ++ toLE 2 masses in
+      let two = toLE 2 24 ++ toLE 2 (24 + 32 * count) in
+      let three = toLE 4 (24 + 32 * count + 8 * masses) ++ toLE 4 n in
+      let four = toLE 4 ones ++ toLE 2 32 in
       let f2 = then 0 one two b₀ b₁ b₂ 4 e1 e2 (omega arith) (simp (length-append, to-length)) in
       let f3 = then 0 (one ++ two) three b₀ b₂ b₃ 8 f2 e3 (omega arith) (simp (length-append, to-length)) in
       let f4 = then 0 ((one ++ two) ++ three) four b₀ b₃ b₄ 16 f3 e4 (omega arith) (simp (length-append, to-length)) in
       let whole : b₅ ≡ putAt 0 ((((one ++ two) ++ three) ++ four) ++ toLE 2 8) b₀ =
       then 0 (((one ++ two) ++ three) ++ four) (toLE 2 8) b₀ b₄ b₅ 22 f4 e5 (omega arith) (simp (length-append, to-length)) in
-      rw (← is) (simp append-assoc at whole)
+      rw (is, counts, draws, of-them) (simp append-assoc at whole)
 
 -- ---- one entry more, where entries differ in length
 

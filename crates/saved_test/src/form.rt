@@ -13,9 +13,9 @@ pub(crate) const MASS_OFFSET_FIELD: usize = 6;
 
 pub(crate) const SIZE_FIELD: usize = 8;
 
-pub(crate) const DRAWS_FIELD: usize = 12;
+pub const DRAWS_FIELD: usize = 12;
 
-pub(crate) const ONES_FIELD: usize = 16;
+pub const ONES_FIELD: usize = 16;
 
 pub(crate) const RECORD_SIZE_FIELD: usize = 20;
 

@@ -2,17 +2,19 @@
 ghost use mathlib.Core.Path.{_≡_};
 ghost use mathlib.Core.Bool.{true, _&&_};
 ghost use mathlib.Core.List.{[], _∷_};
-ghost use Prim.Native.Nat.{_+_, _*_, _≤_, _<_};
-ghost use lib.ListN.{length, replicate};
-ghost use Rattle.walk.specs.Units.{wide, horizonLimit};
+ghost use Prim.Native.Nat.{ℕ, _+_, _*_, _^_, _≤_, _<_};
+ghost use lib.ListN.{length, getD, replicate};
+ghost use Rattle.walk.specs.Units.{wide, allowanceLimit, horizonLimit};
+ghost use Rattle.walk.specs.Spending.{spending};
 ghost use Rattle.plan.specs.Places.{eq?, allTo, unless, firstRefusal, overTo, joinTo};
 ghost use Rattle.plan.specs.Plan.{countLimit, planRefusal};
-ghost use Rattle.bucket_test.specs.Turn.{startRecord, recordAt, recordSoundAt};
+ghost use Rattle.bucket_test.specs.Turn.{startRecord, recordSound};
 ghost use Rattle.bucket_test.specs.Draw.{stateSound, noState};
 ghost use Rattle.little.specs.Little.{field, column, filled};
 ghost use Rattle.saved_test.specs.Form.{headerSize, countField, massesField, recordOffsetField, massOffsetField, sizeField, recordSizeField, massSizeField};
-ghost use Rattle.saved_test.specs.Form.{recordSize, stepField, massSize, formSize, massesTo};
+ghost use Rattle.saved_test.specs.Form.{recordSize, stepField, massSize, massesTo};
 ghost use Rattle.saved_test.specs.Reading.{markKnown, countFits, recordFrom, recordIn, recordFits, partIn, stateIn, wordsIn, formFits, loaded, wordsAfter};
+ghost use Rattle.saved_test.specs.Inner.{FormFits, HasRoom};
 use crate::Loaded;
 use crate::form::COUNT_FIELD;
 use crate::form::DRAWS_FIELD;
@@ -35,15 +37,15 @@ use crate::marks::count_fits;
 use crate::marks::live_count;
 use crate::marks::mark_known;
 use crate::marks::mark_of;
-use crate::marks::masses_of;
 use crate::signed::signed_of;
 use bucket_test::State;
 use bucket_test::Threshold;
 use bucket_test::judging::record_sound;
 use bucket_test::starting::no_walked;
 use bucket_test::starting::ten_of;
-use little::numbers::read_le;
+use little::numbers::read_u16;
 use little::numbers::read_u32;
+use little::numbers::read_u64;
 use little::tables::long_fields_in;
 use plan::COUNT_LIMIT;
 use plan::Plan;
@@ -54,19 +56,19 @@ use walk::row::clear_from;
 use walk::spending::spending_at;
 use walk::starting::start_walked;
 
-// The record at an offset.
-fn record_from(bytes: &[u8], at: usize) -> Threshold
+// The record at an offset. Its mark comes first, so that no branch stands between the other fields and what is made of them.
+pub fn record_from(bytes: &[u8], at: usize) -> Threshold
     requires { ⌜ at + recordSize ≤ length (now bytes) ⌝ }
     ensures { λ r. ⌜ r ≡ recordFrom (now (bytes .entry)) at ⌝ }
 {
-    let code = read_u32(bytes, at, 4);
-    let step = read_u32(bytes, at + STEP_FIELD, 4);
-    let bits = read_u32(bytes, at + LOWER_FIELD, 4);
-    let upper = read_u32(bytes, at + UPPER_FIELD, 4);
-    let over = read_le(bytes, at + OVER_FIELD, 8);
-    let under = read_le(bytes, at + UNDER_FIELD, 8);
+    let code = read_u32(bytes, at);
+    let step = read_u32(bytes, at + STEP_FIELD);
     let mark = mark_of(code, step);
+    let bits = read_u32(bytes, at + LOWER_FIELD);
     let lower = signed_of(bits);
+    let upper = read_u32(bytes, at + UPPER_FIELD);
+    let over = read_u64(bytes, at + OVER_FIELD);
+    let under = read_u64(bytes, at + UNDER_FIELD);
     let walked = Walked {
         lower: lower,
         upper: upper,
@@ -79,33 +81,45 @@ fn record_from(bytes: &[u8], at: usize) -> Threshold
     }
 }
 
-// The record t at an offset has a known mark, and open boundaries that count as many masses as a part can hold.
-fn record_fits(bytes: &[u8], at: usize, t: Threshold) -> bool
-    requires { ⌜ (at + recordSize ≤ length (now bytes)) × (t ≡ recordFrom (now bytes) at) ⌝ }
+// The record at an offset has a known mark, and open boundaries that count as many masses as a part can hold.
+fn record_fits(bytes: &[u8], at: usize) -> bool
+    requires { ⌜ at + recordSize ≤ length (now bytes) ⌝ }
     ensures { λ r. ⌜ r ≡ (markKnown (field 4 at (now (bytes .entry))) (field 4 (at + stepField) (now (bytes .entry)))
         && countFits (recordFrom (now (bytes .entry)) at .mark) (recordFrom (now (bytes .entry)) at .walked)) ⌝ }
 {
-    let code = read_u32(bytes, at, 4);
-    let step = read_u32(bytes, at + STEP_FIELD, 4);
+    let code = read_u32(bytes, at);
+    let step = read_u32(bytes, at + STEP_FIELD);
     if !mark_known(code, step) {
         return false;
     }
+    let t = record_from(bytes, at);
     count_fits(t)
 }
 
-// .. each of the K.
-fn records_fit(p: Plan, bytes: &[u8], records: [Threshold; COUNT_LIMIT]) -> bool
-    requires { ⌜ (p .count ≤ countLimit) × (headerSize + recordSize * p .count ≤ length (now bytes)) × (records ≡ stateIn p (now bytes) .records) ⌝ }
-    ensures { λ r. ⌜ r ≡ allTo (p .count) (recordFits (now (bytes .entry))) ⌝ }
+// .. each of so many.
+fn records_fit(bytes: &[u8], count: usize) -> bool
+    requires { ⌜ (count ≤ countLimit) × (headerSize + recordSize * count ≤ length (now bytes)) ⌝ }
+    ensures { λ r. ⌜ r ≡ allTo count (recordFits (now (bytes .entry))) ⌝ }
 {
-    let count = p.count as usize;
     for i in 0..count {
-        let t = records[i];
-        if !record_fits(bytes, HEADER_SIZE + RECORD_SIZE * i, t) {
+        if !record_fits(bytes, HEADER_SIZE + RECORD_SIZE * i) {
             return false;
         }
     }
     true
+}
+
+// The masses that so many records ask.
+fn masses_in(bytes: &[u8], count: usize) -> usize
+    requires { ⌜ (count ≤ countLimit) × (headerSize + recordSize * count ≤ length (now bytes)) ⌝ }
+    ensures { λ r. ⌜ (r ≡ massesTo (recordIn (now (bytes .entry))) count) × (r ≤ 2 ^ 33 * count) ⌝ }
+{
+    let mut total: usize = 0;
+    for i in 0..count {
+        let t = record_from(bytes, HEADER_SIZE + RECORD_SIZE * i);
+        total += live_count(t);
+    }
+    total
 }
 
 // The header's numbers but n and S.
@@ -120,25 +134,25 @@ fn header_fits(bytes: &[u8], count: usize, masses: usize, offset: usize, size: u
         && (eq? (field 2 recordSizeField (now (bytes .entry))) recordSize
         && eq? (field 2 massSizeField (now (bytes .entry))) massSize)))))) ⌝ }
 {
-    if read_le(bytes, COUNT_FIELD, 2) as usize != count {
+    if read_u16(bytes, COUNT_FIELD) as usize != count {
         return false;
     }
-    if read_le(bytes, MASSES_FIELD, 2) as usize != masses {
+    if read_u16(bytes, MASSES_FIELD) as usize != masses {
         return false;
     }
-    if read_le(bytes, RECORD_OFFSET_FIELD, 2) as usize != HEADER_SIZE {
+    if read_u16(bytes, RECORD_OFFSET_FIELD) as usize != HEADER_SIZE {
         return false;
     }
-    if read_le(bytes, MASS_OFFSET_FIELD, 2) as usize != offset {
+    if read_u16(bytes, MASS_OFFSET_FIELD) as usize != offset {
         return false;
     }
-    if read_le(bytes, SIZE_FIELD, 4) as usize != size {
+    if read_u32(bytes, SIZE_FIELD) as usize != size {
         return false;
     }
-    if read_le(bytes, RECORD_SIZE_FIELD, 2) as usize != RECORD_SIZE {
+    if read_u16(bytes, RECORD_SIZE_FIELD) as usize != RECORD_SIZE {
         return false;
     }
-    read_le(bytes, MASS_SIZE_FIELD, 2) as usize == MASS_SIZE
+    read_u16(bytes, MASS_SIZE_FIELD) as usize == MASS_SIZE
 }
 
 // So many records, and those of a beginning behind them.
@@ -156,12 +170,12 @@ fn records_in(bytes: &[u8], count: usize) -> [Threshold; COUNT_LIMIT]
 }
 
 // The state that the bytes hold.
-pub fn state_in(p: Plan, bytes: &[u8]) -> State
+fn state_in(p: Plan, bytes: &[u8]) -> State
     requires { ⌜ (p .count ≤ countLimit) × (headerSize + recordSize * p .count ≤ length (now bytes)) ⌝ }
     ensures { λ r. ⌜ r ≡ stateIn p (now (bytes .entry)) ⌝ }
 {
-    let n = read_u32(bytes, DRAWS_FIELD, 4);
-    let ones = read_u32(bytes, ONES_FIELD, 4);
+    let n = read_u32(bytes, DRAWS_FIELD);
+    let ones = read_u32(bytes, ONES_FIELD);
     let count = p.count as usize;
     let records = records_in(bytes, count);
     State {
@@ -171,14 +185,16 @@ pub fn state_in(p: Plan, bytes: &[u8]) -> State
     }
 }
 
-// Refusal 15, of bytes that are long enough for K records, with the records that they hold.
-pub fn form_fits(p: Plan, bytes: &[u8], records: [Threshold; COUNT_LIMIT]) -> bool
-    requires { ⌜ (p .count ≤ countLimit) × (headerSize + recordSize * p .count ≤ length (now bytes)) × (records ≡ stateIn p (now bytes) .records) ⌝ }
-    ensures { λ r. ⌜ r ≡ formFits p (now (bytes .entry)) ⌝ }
+// Refusal 15, under a plan with so many thresholds.
+pub fn form_fits(bytes: &[u8], count: usize) -> bool
+    requires { ⌜ count ≤ countLimit ⌝ }
+    ensures { λ r. ⌜ ((p : Plan) → p .count ≡ count → r ≡ formFits p (now (bytes .entry))) ⌝ }
 {
-    let count = p.count as usize;
     let offset = HEADER_SIZE + RECORD_SIZE * count;
-    let masses = masses_of(records, count);
+    if bytes.len() < offset {
+        return false;
+    }
+    let masses = masses_in(bytes, count);
     let size = offset + MASS_SIZE * masses;
     if bytes.len() != size {
         return false;
@@ -186,7 +202,7 @@ pub fn form_fits(p: Plan, bytes: &[u8], records: [Threshold; COUNT_LIMIT]) -> bo
     if !header_fits(bytes, count, masses, offset, size) {
         return false;
     }
-    records_fit(p, bytes, records)
+    records_fit(bytes, count)
 }
 
 // So many masses from an offset on, at the front of a part; the words behind them stay.
@@ -194,7 +210,7 @@ pub fn front_in(bytes: &[u8], at: usize, count: usize, part: &mut [u64])
     requires { ⌜ (count ≤ length (now part)) × (at + massSize * count ≤ length (now bytes)) ⌝ }
     ensures { λ _. ⌜ now (part .exit) ≡ filled count (column massSize at massSize (now (bytes .entry))) (now (part .entry)) ⌝ }
 {
-    long_fields_in(bytes, at, MASS_SIZE, MASS_SIZE, count, part);
+    long_fields_in(bytes, at, MASS_SIZE, count, part);
 }
 
 // .. and zeros behind them.
@@ -207,9 +223,8 @@ fn part_in(bytes: &[u8], at: usize, count: usize, part: &mut [u64])
 }
 
 // The words that the bytes hold, where the form fits.
-pub fn parts_in(bytes: &[u8], count: usize, words: &mut [u64])
-    requires { ⌜ (count ≤ countLimit) × (length (now words) ≡ wide * count) × (allTo count (recordFits (now bytes)) ≡ true)
-        × (length (now bytes) ≡ formSize count (massesTo (recordIn (now bytes)) count)) ⌝ }
+fn parts_in(bytes: &[u8], count: usize, words: &mut [u64])
+    requires { ⌜ (count ≤ countLimit) × (length (now words) ≡ wide * count) × FormFits count (now bytes) ⌝ }
     ensures { λ _. ⌜ now (words .exit) ≡ joinTo count (partIn (now (bytes .entry)) count) ⌝ }
 {
     let mut at = HEADER_SIZE + RECORD_SIZE * count;
@@ -222,48 +237,75 @@ pub fn parts_in(bytes: &[u8], count: usize, words: &mut [u64])
     }
 }
 
-// Whether each of the K thresholds that the bytes hold passes refusal 11, each part in the same 769 words.
-fn parts_sound(p: Plan, bytes: &[u8], s: State, part: &mut [u64]) -> bool
-    requires { ⌜ (planRefusal p ≡ 0) × (formFits p (now bytes) ≡ true) × (s ≡ stateIn p (now bytes)) × (s .n ≤ horizonLimit)
-        × (length (now part) ≡ wide) ⌝ }
-    ensures { λ r. ⌜ r ≡ allTo (p .count) (λ i. recordSoundAt p (wordsIn p (now (bytes .entry))) (s .n) (s .ones) i (recordAt s i)) ⌝ }
+// Whether each of the thresholds that the bytes hold passes refusal 11 after n draws, where the form fits; their masses are read, one threshold
+// after the other, into a part that has room for those of each.
+fn parts_sound(
+    allowances: &[u64; COUNT_LIMIT],
+    count: usize,
+    delay: u32,
+    bytes: &[u8],
+    n: u32,
+    ones: u32,
+    part: &mut [u64],
+) -> bool
+    requires { ⌜ (count ≤ countLimit) × ((i : ℕ) → i < count → getD (now allowances) i 0 ≤ allowanceLimit) × (1 ≤ delay) × (n ≤ horizonLimit)
+        × FormFits count (now bytes) × HasRoom count (now bytes) (length (now part)) ⌝ }
+    ensures { λ r. ⌜ r ≡ allTo count (λ i. recordSound (spending (getD (now (allowances .entry)) i 0) delay n) n ones
+        (recordIn (now (bytes .entry)) i .mark) (recordIn (now (bytes .entry)) i) (partIn (now (bytes .entry)) count i)) ⌝ }
 {
-    let count = p.count as usize;
     let mut at = HEADER_SIZE + RECORD_SIZE * count;
     for i in 0..count {
-        let t = s.records[i];
-        let n = live_count(t);
-        front_in(bytes, at, n, part);
-        let e = spending_at(p.allowances[i], p.delay, s.n);
-        if !record_sound(t, &part[..], e, s.n, s.ones) {
+        let t = record_from(bytes, HEADER_SIZE + RECORD_SIZE * i);
+        let live = live_count(t);
+        front_in(bytes, at, live, part);
+        let e = spending_at(allowances[i], delay, n);
+        if !record_sound(t, &part[..], e, n, ones) {
             return false;
         }
-        at += MASS_SIZE * n;
+        at += MASS_SIZE * live;
     }
     true
 }
 
-// Refusal 11 of the state that the bytes hold, where the form fits.
-pub fn state_sound_in(p: Plan, bytes: &[u8], s: State, part: &mut [u64]) -> bool
-    requires { ⌜ (planRefusal p ≡ 0) × (formFits p (now bytes) ≡ true) × (s ≡ stateIn p (now bytes)) × (length (now part) ≡ wide) ⌝ }
-    ensures { λ r. ⌜ r ≡ stateSound p s (wordsIn p (now (bytes .entry))) ⌝ }
+// Refusal 11 of the test that the bytes hold, where the form fits, under a plan with these allowances, of at most ten.
+pub fn state_sound_in(
+    allowances: &[u64; COUNT_LIMIT],
+    count: usize,
+    delay: u32,
+    horizon: u32,
+    bytes: &[u8],
+    part: &mut [u64],
+) -> bool
+    requires { ⌜ (count ≤ countLimit) × ((i : ℕ) → i < count → getD (now allowances) i 0 ≤ allowanceLimit) × (1 ≤ delay) × (horizon ≤ horizonLimit)
+        × FormFits count (now bytes) × HasRoom count (now bytes) (length (now part)) ⌝ }
+    ensures { λ r. ⌜ ((p : Plan) → p .count ≡ count → p .allowances ≡ now (allowances .entry) → p .delay ≡ delay → p .horizon ≡ horizon
+        → r ≡ stateSound p (stateIn p (now (bytes .entry))) (wordsIn p (now (bytes .entry)))) ⌝ }
 {
-    if s.n > p.horizon {
+    let n = read_u32(bytes, DRAWS_FIELD);
+    let ones = read_u32(bytes, ONES_FIELD);
+    if n > horizon {
         return false;
     }
-    if s.ones > s.n {
+    if ones > n {
         return false;
     }
-    parts_sound(p, bytes, s, part)
+    parts_sound(allowances, count, delay, bytes, n, ones, part)
 }
 
 // .. before a lent word changes, with words of its own.
-fn may_read(p: Plan, bytes: &[u8], s: State) -> bool
-    requires { ⌜ (planRefusal p ≡ 0) × (formFits p (now bytes) ≡ true) × (s ≡ stateIn p (now bytes)) ⌝ }
-    ensures { λ r. ⌜ r ≡ stateSound p s (wordsIn p (now (bytes .entry))) ⌝ }
+fn may_read(p: Plan, bytes: &[u8]) -> bool
+    requires { ⌜ (planRefusal p ≡ 0) × (formFits p (now bytes) ≡ true) ⌝ }
+    ensures { λ r. ⌜ r ≡ stateSound p (stateIn p (now (bytes .entry))) (wordsIn p (now (bytes .entry))) ⌝ }
 {
     let mut part = [0u64; WIDE];
-    state_sound_in(p, bytes, s, &mut part)
+    state_sound_in(
+        &p.allowances,
+        p.count as usize,
+        p.delay,
+        p.horizon,
+        bytes,
+        &mut part,
+    )
 }
 
 // The first refusal of a reading into so many words before the test is judged: plan, 8, 15.
@@ -277,12 +319,7 @@ fn form_refusal(p: Plan, bytes: &[u8], words: usize) -> u32
     if words != WIDE * p.count as usize {
         return 8;
     }
-    if bytes.len() < HEADER_SIZE + RECORD_SIZE * p.count as usize {
-        return 15;
-    }
-    let s = state_in(p, bytes);
-    let records = s.records;
-    if !form_fits(p, bytes, records) {
+    if !form_fits(bytes, p.count as usize) {
         return 15;
     }
     0
@@ -310,10 +347,10 @@ pub fn read_test(p: Plan, bytes: &[u8], words: &mut [u64]) -> Loaded
     if bad != 0 {
         return refused(bad);
     }
-    let state = state_in(p, bytes);
-    if !may_read(p, bytes, state) {
+    if !may_read(p, bytes) {
         return refused(11);
     }
+    let state = state_in(p, bytes);
     parts_in(bytes, p.count as usize, words);
     Loaded {
         refusal: 0,

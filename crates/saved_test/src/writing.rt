@@ -40,7 +40,7 @@ use plan::rules::plan_refusal;
 use walk::WIDE;
 
 // A record at an offset.
-fn write_record(bytes: &mut [u8], at: usize, t: Threshold)
+pub fn write_record(bytes: &mut [u8], at: usize, t: Threshold)
     requires { ⌜ at + recordSize ≤ length (now bytes) ⌝ }
     ensures { λ _. ⌜ now (bytes .exit) ≡ putAt at (recordBytes t) (now (bytes .entry)) ⌝ }
 {
@@ -94,14 +94,15 @@ fn write_masses(bytes: &mut [u8], count: usize, records: [Threshold; COUNT_LIMIT
     }
 }
 
-// The header of a form with so many masses.
-fn write_header(bytes: &mut [u8], p: Plan, s: State, masses: usize)
-    requires { ⌜ (p .count ≤ countLimit) × (headerSize ≤ length (now bytes)) × (masses ≡ savedMasses p s) × (masses ≤ wide * countLimit) ⌝ }
-    ensures { λ _. ⌜ now (bytes .exit) ≡ putAt 0 (header p s) (now (bytes .entry)) ⌝ }
+// The header of the form of a test with so many thresholds and masses, after n draws.
+pub fn write_header(bytes: &mut [u8], count: usize, masses: usize, n: u32, ones: u32)
+    requires { ⌜ (count ≤ countLimit) × (headerSize ≤ length (now bytes)) × (masses ≤ wide * countLimit) ⌝ }
+    ensures { λ _. ⌜ ((p : Plan) (s : State) → p .count ≡ count → savedMasses p s ≡ masses → s .n ≡ n → s .ones ≡ ones
+        → now (bytes .exit) ≡ putAt 0 (header p s) (now (bytes .entry))) ⌝ }
 {
-    let offset = HEADER_SIZE + RECORD_SIZE * p.count as usize;
+    let offset = HEADER_SIZE + RECORD_SIZE * count;
     let size = offset + MASS_SIZE * masses;
-    write_two(bytes, COUNT_FIELD, 2, p.count, 2, masses as u64);
+    write_two(bytes, COUNT_FIELD, 2, count as u32, 2, masses as u64);
     write_two(
         bytes,
         RECORD_OFFSET_FIELD,
@@ -110,8 +111,8 @@ fn write_header(bytes: &mut [u8], p: Plan, s: State, masses: usize)
         2,
         offset as u64,
     );
-    write_two(bytes, SIZE_FIELD, 4, size as u32, 4, s.n as u64);
-    write_two(bytes, ONES_FIELD, 4, s.ones, 2, RECORD_SIZE as u64);
+    write_two(bytes, SIZE_FIELD, 4, size as u32, 4, n as u64);
+    write_two(bytes, ONES_FIELD, 4, ones, 2, RECORD_SIZE as u64);
     write_le(bytes, MASS_SIZE_FIELD, 2, MASS_SIZE as u64);
 }
 
@@ -123,7 +124,7 @@ pub fn write_front(bytes: &mut [u8], p: Plan, s: State)
     let count = p.count as usize;
     let records = s.records;
     let masses = masses_of(records, count);
-    write_header(bytes, p, s, masses);
+    write_header(bytes, count, masses, s.n, s.ones);
     write_records(bytes, count, records);
 }
 

@@ -21,7 +21,7 @@ use crate::form::bucket_offset;
 use crate::form::form_size;
 use crate::order::first_refusal;
 use crate::order::unless;
-use little::numbers::read_le;
+use little::numbers::read_u16;
 use little::numbers::read_u32;
 use little::tables::fields_in;
 use little::tables::long_fields_in;
@@ -36,9 +36,9 @@ fn offsets_fit(bytes: &[u8]) -> bool
     requires { ⌜ headerSize ≤ length (now bytes) ⌝ }
     ensures { λ r. ⌜ r ≡ offsetsFit (now (bytes .entry)) ⌝ }
 {
-    let count = read_u32(bytes, COUNT_FIELD, 2);
-    let thresholds = read_le(bytes, THRESHOLD_OFFSET_FIELD, 2) as usize;
-    let buckets = read_le(bytes, BUCKET_OFFSET_FIELD, 2) as usize;
+    let count = read_u16(bytes, COUNT_FIELD);
+    let thresholds = read_u16(bytes, THRESHOLD_OFFSET_FIELD) as usize;
+    let buckets = read_u16(bytes, BUCKET_OFFSET_FIELD) as usize;
     if thresholds != HEADER_SIZE {
         return false;
     }
@@ -50,8 +50,8 @@ fn form_refusal(bytes: &[u8]) -> u32
     requires { ⌜ headerSize ≤ length (now bytes) ⌝ }
     ensures { λ r. ⌜ r ≡ formRefusal (now (bytes .entry)) ⌝ }
 {
-    let count = read_u32(bytes, COUNT_FIELD, 2);
-    let buckets = read_u32(bytes, BUCKETS_FIELD, 2);
+    let count = read_u16(bytes, COUNT_FIELD);
+    let buckets = read_u16(bytes, BUCKETS_FIELD);
     let counts = unless(counts_fit(count, buckets), 1);
     let offsets = unless(offsets_fit(bytes), 7);
     let size = unless(bytes.len() == form_size(count, buckets), 7);
@@ -64,35 +64,27 @@ fn plan_in(bytes: &[u8]) -> Plan
         × (length (now bytes) ≡ formSize (countIn (now bytes)) (bucketsIn (now bytes))) ⌝ }
     ensures { λ r. ⌜ r ≡ planIn (now (bytes .entry)) ⌝ }
 {
-    let count = read_u32(bytes, COUNT_FIELD, 2);
-    let buckets = read_u32(bytes, BUCKETS_FIELD, 2);
-    let delay = read_u32(bytes, DELAY_FIELD, 4);
-    let horizon = read_u32(bytes, HORIZON_FIELD, 4);
+    let count = read_u16(bytes, COUNT_FIELD);
+    let buckets = read_u16(bytes, BUCKETS_FIELD);
+    let delay = read_u32(bytes, DELAY_FIELD);
+    let horizon = read_u32(bytes, HORIZON_FIELD);
     let k = count as usize;
     let b = buckets as usize;
     let at = bucket_offset(count);
     let mut thresholds = [0u32; COUNT_LIMIT];
-    fields_in(
-        bytes,
-        HEADER_SIZE,
-        THRESHOLD_ENTRY_SIZE,
-        4,
-        k,
-        &mut thresholds,
-    );
+    fields_in(bytes, HEADER_SIZE, THRESHOLD_ENTRY_SIZE, k, &mut thresholds);
     let mut allowances = [0u64; COUNT_LIMIT];
     long_fields_in(
         bytes,
         HEADER_SIZE + ALLOWANCE_FIELD,
         THRESHOLD_ENTRY_SIZE,
-        8,
         k,
         &mut allowances,
     );
     let mut left = [0u32; BUCKET_LIMIT];
-    fields_in(bytes, at, BUCKET_ENTRY_SIZE, 4, b, &mut left);
+    fields_in(bytes, at, BUCKET_ENTRY_SIZE, b, &mut left);
     let mut right = [0u32; BUCKET_LIMIT];
-    fields_in(bytes, at + RIGHT_FIELD, BUCKET_ENTRY_SIZE, 4, b, &mut right);
+    fields_in(bytes, at + RIGHT_FIELD, BUCKET_ENTRY_SIZE, b, &mut right);
     Plan {
         count,
         buckets,

@@ -1,4 +1,4 @@
--- A threshold's part of 769 words, as `trim`, `advance` and `step` leave it.
+-- A threshold's part, as `trim`, `advance` and `step` leave it.
 use mathlib.Core.Path.{_≡_, sym, ap, _∙_}
 use mathlib.Core.List.{List, _++_}
 use Prim.Native.Nat.{ℕ, suc, _+_, _-_, _≤_, _<_}
@@ -85,7 +85,7 @@ module _ {a e : ℕ} {w : Walked} {words : List ℕ} (s : Steppable a e w words)
 
   pub row-length : length (row .masses) ≡ w .upper - firstAbove (w .lower)
   unfolding rowOf
-  row-length = length-take-le (w .upper - firstAbove (w .lower)) words (omega (arith, s .size, s .narrow))
+  row-length = length-take-le (w .upper - firstAbove (w .lower)) words (omega (arith, s .room))
 
   pub order : firstAbove (w .lower) < w .upper
   order = omega (arith, row-length, s .sound .live)
@@ -100,7 +100,7 @@ module _ {a e : ℕ} {w : Walked} {words : List ℕ} (s : Steppable a e w words)
     unfolding rowOf
     front =
         let n : length (newMasses a (take (w .upper - f) words)) ≡ w .upper - f + 1 =
-        omega (arith, cells-length (massUp a) 0 (take (w .upper - f) words), length-take-le (w .upper - f) words (omega (arith, s .size, s .narrow))) in
+        omega (arith, cells-length (massUp a) 0 (take (w .upper - f) words), length-take-le (w .upper - f) words (omega (arith, s .room))) in
         ap (take (w .upper - f + 1)) spreads
         ∙ take-at (newMasses a (take (w .upper - f) words)) (drop (w .upper - f + 1) words) (w .upper - f + 1) n
         ∙ ap (λ (x : ℕ). newMasses a (take (w .upper - x) words)) f-is

@@ -13,7 +13,7 @@ use lib.Signed.{leZ, ltZ}
 use Rattle.walk.specs.Numbers.{le?, lt?, allUpTo}
 use Rattle.walk.specs.Units.{M, million, wide, massLimit, horizonLimit}
 use Rattle.walk.specs.Spending.{IsSpending}
-use Rattle.walk.specs.Walk.{below}
+use Rattle.walk.specs.Walk.{below, wide?}
 use Rattle.walk.specs.Row.{Row, upper, total, rows, SoundAt}
 use Rattle.walk.specs.Record.{firstAbove, rowOf, recordOf, isWide, padded}
 use Rattle.walk.specs.Soundness.{boundariesSound, isSound, Steppable}
@@ -106,7 +106,21 @@ module _ (e n s : ℕ) (w : Walked) where
         le?-complete (w .under) e (b .under-fits),
       )
 
--- ---- refusal 11, of words of the right number
+-- ---- refusal 11
+
+module _ (e n s : ℕ) (w : Walked) (words : List ℕ) where
+  pub sound-between : isSound e n s w words ≡ true → Between e n s (firstAbove (w .lower)) w
+  unfolding isSound
+  sound-between h = boundaries-say e n s w (and-true (boundariesSound e n s w) _ h .0)
+
+  -- a record that is not wide has fewer than 769 live counts
+  pub few-live : isSound e n s w words ≡ true → isWide w ≡ false → w .upper - firstAbove (w .lower) < wide
+  unfolding isWide
+  few-live h thin =
+      let b = sound-between h in
+      let f : ℕ = firstAbove (w .lower) in
+      let apart = wide-fails (w .upper) f (omega (arith, b .order)) .0 (ap (wide? (w .upper)) (sym (b .signed)) ∙ thin) in
+      omega (arith, b .fits, apart)
 
 -- what it leaves: the record and the words hold a row that is sound after n steps and fits its words
 pub record Checked (E : ℕ → ℕ) (n : ℕ) (w : Walked) (words : List ℕ) : Type 0 where
@@ -116,54 +130,49 @@ pub record Checked (E : ℕ → ℕ) (n : ℕ) (w : Walked) (words : List ℕ) :
   pub small : allUpTo massLimit (rowOf w words .masses) ≡ true
   pub sound : SoundAt E n (rowOf w words)
 
-module _ (E : ℕ → ℕ) (n s : ℕ) (w : Walked) (words : List ℕ) (size : length words ≡ wide) where
+-- .. where there is a word for each live count
+module _ (E : ℕ → ℕ) (n s : ℕ) (w : Walked) (words : List ℕ) (held : w .upper - firstAbove (w .lower) ≤ length words) where
   pub checked : isSound (E n) n s w words ≡ true → Checked E n w words
   unfolding isSound rowOf wide
   checked h =
-      let a1 = and-true (boundariesSound (E n) n s w) _ h in
-      let a2 = and-true (allUpTo massLimit (rowOf w words .masses)) _ (a1 .1) in
-      let b = boundaries-say (E n) n s w (a1 .0) in
+      let a = and-true (allUpTo massLimit (rowOf w words .masses)) _ (and-true (boundariesSound (E n) n s w) _ h .1) in
+      let b = sound-between (E n) n s w words h in
       let l : length (take (w .upper - firstAbove (w .lower)) words) ≡ w .upper - firstAbove (w .lower) =
-      length-take-le (w .upper - firstAbove (w .lower)) words (omega (arith, b .fits)) in
+      length-take-le (w .upper - firstAbove (w .lower)) words held in
       record {
         signed = b .signed;
         upper-is = omega (arith, b .order);
         fits = omega (arith, b .fits);
-        small = a2 .0;
+        small = a .0;
         sound = record {
-          sound = record { live = omega (arith, b .order); over-fits = b .over-fits; under-fits = b .under-fits; full = le?-sound M _ (a2 .1) };
+          sound = record { live = omega (arith, b .order); over-fits = b .over-fits; under-fits = b .under-fits; full = le?-sound M _ (a .1) };
           top = omega (arith, b .top, b .order);
         };
       }
 
-  -- the record and the words hold the row and nothing else
-  pub record-back : isSound (E n) n s w words ≡ true → recordOf (rowOf w words) ≡ w
-  unfolding recordOf rowOf
-  record-back h =
-      let c = checked h in
-      λ i. record { lower = sym (c .signed) i; upper = sym (c .upper-is) i; over = w .over; under = w .under }
-
   pub narrow : isSound (E n) n s w words ≡ true → isWide w ≡ false → length (rowOf w words .masses) < wide
-  narrow h thin = omega (arith, checked h .fits, narrow-record (rowOf w words) .0 (ap isWide (record-back h) ∙ thin))
+  unfolding rowOf
+  narrow h thin = omega (arith, checked h .upper-is, few-live (E n) n s w words h thin)
 
-  -- what a step asks, of a record that is not wide
+-- .. and a word more: what a step asks, of a record that is not wide
+module _ (E : ℕ → ℕ) (n s : ℕ) (w : Walked) (words : List ℕ) (room : w .upper - firstAbove (w .lower) < length words) where
   pub steppable : (a : ℕ) → a ≤ million → IsSpending E → n ≤ horizonLimit → isWide w ≡ false → isSound (E n) n s w words ≡ true
       → Steppable a (E (suc n)) w words
   unfolding rowOf
   steppable a threshold spends early thin h =
-      let c = checked h in
+      let c = checked E n s w words (omega arith) h in
       record {
         threshold = threshold;
         half = spends .half (suc n);
-        size = size;
+        room = room;
         signed = c .signed;
-        narrow = omega (arith, c .upper-is, narrow h thin);
+        narrow = omega (arith, few-live (E n) n s w words h thin);
         early = omega (arith, c .upper-is, c .sound .top);
         small = c .small;
         sound = allowed-next a threshold E spends n (rowOf w words) (c .sound);
       }
 
--- ---- it refuses no sound row that fits its words
+-- ---- refusal 11 refuses no sound row that fits its words
 
 pub row-passes : (E : ℕ → ℕ) (n s : ℕ) (r : Row) → SoundAt E n r → length (r .masses) ≤ wide → allUpTo massLimit (r .masses) ≡ true
     → r .first ≤ s → s < upper r → isSound (E n) n s (recordOf r) (padded (r .masses)) ≡ true

@@ -2,7 +2,7 @@
 use mathlib.Core.Path.{_≡_}
 use mathlib.Core.Bool.{Bool, true, _&&_}
 use mathlib.Core.List.{List}
-use Prim.Native.Nat.{ℕ, suc, _+_, _≤_, _<_}
+use Prim.Native.Nat.{ℕ, suc, _+_, _-_, _≤_, _<_}
 use lib.IntN.{pos, negsuc, _-ℤ_}
 use lib.Signed.{leZ, ltZ}
 use lib.ListN.{length}
@@ -34,12 +34,12 @@ module _ (e n s : ℕ) (w : Walked) where
       && (allUpTo massLimit (rowOf w words .masses)
       && le? M (total (rowOf w words)))
 
--- What a step with e to spend asks. All of it holds of a record that is not wide with its 769 words, let through by refusal 11 after at most
--- 50,000 draws, where e is what the next step may spend (proofs/SoundnessLaws, `steppable`).
+-- What a step with e to spend asks. All of it holds of a record that is not wide with one word more than are live, let through by refusal 11
+-- after at most 50,000 draws, where e is what the next step may spend (proofs/SoundnessLaws, `steppable`).
 pub record Steppable (a e : ℕ) (w : Walked) (words : List ℕ) : Type 0 where
   pub threshold : a ≤ million
   pub half : e + e < M
-  pub size : length words ≡ wide
+  pub room : w .upper - firstAbove (w .lower) < length words
   pub signed : w .lower ≡ below (firstAbove (w .lower))
   pub narrow : w .upper < firstAbove (w .lower) + wide
   pub early : w .upper ≤ suc horizonLimit

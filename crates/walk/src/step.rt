@@ -6,6 +6,7 @@ use crate::row::spread;
 use crate::row::trim;
 ghost use mathlib.Core.Path.{_≡_};
 ghost use Prim.Native.Nat.{suc, _+_, _≤_};
+ghost use lib.ListN.{length};
 ghost use Rattle.walk.specs.Units.{wide, horizonLimit};
 ghost use Rattle.walk.specs.Walk.{below};
 ghost use Rattle.walk.specs.Row.{stepRow};
@@ -29,7 +30,8 @@ fn raised(lower: i32, by: usize) -> i32
 }
 
 // One step of the walk of the threshold a, in place, with e to spend: the new live masses stand in front, and what stands behind them is
-// left as it comes. For `bucket_test` only, which steps a state that `is_sound` lets through after at most 50,000 draws, and that is not wide.
+// left as it comes. The part may be of any length with a word more than are live: no other word is touched. For `bucket_test` only, which
+// steps a state that `is_sound` lets through after at most 50,000 draws, and that is not wide.
 pub fn advance(part: &mut [u64], w: Walked, a: u32, e: u64) -> Walked
     requires { ⌜ Steppable a e w (now part) ⌝ }
     ensures { λ r. ⌜
@@ -52,9 +54,9 @@ pub fn advance(part: &mut [u64], w: Walked, a: u32, e: u64) -> Walked
     }
 }
 
-// The same, and zeros follow the live masses.
+// The same in the 769 words of a part, where zeros follow the live masses.
 pub fn step(part: &mut [u64], w: Walked, a: u32, e: u64) -> Walked
-    requires { ⌜ Steppable a e w (now part) ⌝ }
+    requires { ⌜ Steppable a e w (now part) × (length (now part) ≡ wide) ⌝ }
     ensures { λ r. ⌜
         (r ≡ recordOf (stepRow a e (rowOf w (now (part .entry)))))
         × (now (part .exit) ≡ padded (stepRow a e (rowOf w (now (part .entry))) .masses))

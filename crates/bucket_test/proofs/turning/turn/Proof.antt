@@ -8,7 +8,9 @@ enum-told : tie.Need-enum-told
 enum-told c = search needs
 
 step-requires : tie.Need-step-requires
-step-requires c κs = rw (c .before .before .enum-told .given .1) at (c .before .before .before .before .before .pre)
+step-requires c κs =
+    let h = c .before .before .before .before .before .pre in
+    (rw (c .before .before .enum-told .given .1) at (h .0), h .1)
 
 walked-on-requires : tie.Need-walked-on-requires
 walked-on-requires c κs = search needs

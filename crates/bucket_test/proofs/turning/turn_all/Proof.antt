@@ -12,7 +12,7 @@ use Rattle.bucket_test.specs.Turn.{noRecord, recordTurn, partTurn}
 use Rattle.plan.specs.declared.Plan.{Plan}
 use Rattle.bucket_test.specs.declared.Threshold.{Threshold}
 use Rattle.plan.proofs.AcceptedLaws.{accepted}
-use Rattle.bucket_test.proofs.TurningLaws.{record-now, record-put, words-none, words-all, part-now, part-put, may-turn, same-record, same-part}
+use Rattle.bucket_test.proofs.TurningLaws.{record-now, record-put, part-length, words-none, words-all, part-now, part-put, may-turn, same-record, same-part}
 use borrow.Author.Needs.{needs}
 use Rattle.bucket_test.proofs.turning.turn_all.Statement.{statement}
 use Rattle.bucket_test.proofs.turning.turn_all.Tie as tie
@@ -109,7 +109,11 @@ turn-requires c κs =
     let b = c .before .before .before .before .before in
     let s = b .before .before .before in
     let k = now-at (c .before) in
-    may-turn _ (s .args .n) (s .args .ones) (c .before .spending-at .ensures) (k .0) (k .1) (s .pre .3 (b .before .loop .i) (b .loop-test .taken))
+    let i = b .before .loop .i in
+    let l = b .loop-test .taken in (
+      may-turn _ (s .args .n) (s .args .ones) (c .before .spending-at .ensures) (k .0) (k .1) (s .pre .3 i l),
+      ap length (k .1) ∙ part-length (s .args .words .now) (s .args .t1 .count) i (s .pre .1) l,
+    )
 
 mul-next : tie.Need-mul-next Inv-loop μ-loop
 mul-next c = search needs

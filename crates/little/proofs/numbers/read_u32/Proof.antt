@@ -1,18 +1,31 @@
--- At most 4 bytes fit.
+-- Two fields of two bytes each.
 use native.Mathlib.Omega.{arith}
+use Rattle.little.proofs.LittleLaws.{field-join}
 use borrow.Author.Needs.{needs}
-use Rattle.little.proofs.LittleLaws.{pow-le}
 use Rattle.little.proofs.numbers.read_u32.Statement.{statement}
 use Rattle.little.proofs.numbers.read_u32.Tie as tie
 
-read-le-requires : tie.Need-read-le-requires
-read-le-requires c κs = search needs
+read-u16-requires : tie.Need-read-u16-requires
+read-u16-requires c κs = search needs
 
-cast-result : tie.Need-cast-result
-cast-result c = omega (arith, c .read-le .ensures .1, pow-le (c .before .before .args .width) 4 (c .before .before .pre .1))
+add-read-u16 : tie.Need-add-read-u16
+add-read-u16 c = search needs
+
+read-u16-requires-2 : tie.Need-read-u16-requires-2
+read-u16-requires-2 c κs = search needs
+
+mul-result : tie.Need-mul-result
+mul-result c = search needs
+
+add-result : tie.Need-add-result
+add-result c = search needs
 
 returns : tie.Need-returns
-returns c = search needs
+returns c =
+    let a = c .before .before .before .args in
+    (omega (arith, field-join 2 2 (a .at) (a .bytes .now) (omega arith)), omega arith)
 
 pub read-u32-spec : {M : Type 1} → statement M
-read-u32-spec = tie.close (tie.spec read-le-requires cast-result returns)
+read-u32-spec =
+    tie.close
+    (tie.spec read-u16-requires add-read-u16 read-u16-requires-2 mul-result add-result returns)

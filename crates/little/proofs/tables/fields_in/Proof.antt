@@ -8,22 +8,22 @@ use Rattle.little.proofs.tables.fields_in.Statement.{statement}
 use Rattle.little.proofs.tables.fields_in.Tie as tie
 
 abbrev Inv-loop : tie.InvT-loop
-Inv-loop bytes at stride width count table₀ i₀ table i = FilledTo count (column width at stride bytes) table₀ i table
+Inv-loop bytes at stride count table₀ i₀ table i = FilledTo count (column 4 at stride bytes) table₀ i table
 
 abbrev μ-loop : tie.MeasureT-loop
-μ-loop bytes at stride width count table₀ i₀ table i = count - i
+μ-loop bytes at stride count table₀ i₀ table i = count - i
 
 loop-holds : tie.Need-loop-holds Inv-loop μ-loop
 loop-holds c = fill-none _ _ _
 
 mul-read-u32 : tie.Need-mul-read-u32 Inv-loop μ-loop
-mul-read-u32 c = record { fits = omega (arith, c .before .before .before .before .pre .2 (c .before .loop .i) (c .loop-test .taken)) }
+mul-read-u32 c = record { fits = omega (arith, c .before .before .before .before .pre .1 (c .before .loop .i) (c .loop-test .taken)) }
 
 add-read-u32 : tie.Need-add-read-u32 Inv-loop μ-loop
-add-read-u32 c = record { fits = omega (arith, c .before .before .before .before .pre .2 (c .before .loop .i) (c .loop-test .taken)) }
+add-read-u32 c = record { fits = omega (arith, c .before .before .before .before .pre .1 (c .before .loop .i) (c .loop-test .taken)) }
 
 read-u32-requires : tie.Need-read-u32-requires Inv-loop μ-loop
-read-u32-requires c κs = let pre = c .before .before .before .before .pre in (pre .2 (c .before .loop .i) (c .loop-test .taken), pre .0)
+read-u32-requires c κs = let pre = c .before .before .before .before .pre in pre .1 (c .before .loop .i) (c .loop-test .taken)
 
 mul-table : tie.Need-mul-table Inv-loop μ-loop
 mul-table c = search needs
@@ -41,7 +41,7 @@ loop-again : tie.Need-loop-again Inv-loop μ-loop
 loop-again c =
     let l = c .before .before .loop in
     let a = c .before .before .before .before .before .args in
-    let f = column (a .width) (a .at) (a .stride) (a .bytes .now) in
+    let f = column 4 (a .at) (a .stride) (a .bytes .now) in
     fill-next (a .count) f (a .table .now) (l .i) (l .table) (l .inv) (c .before .loop-test .taken) (c .read-u32 .result) (c .read-u32 .ensures .0)
 
 same-length : tie.Need-same-length Inv-loop μ-loop

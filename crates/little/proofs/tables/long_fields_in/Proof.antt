@@ -8,22 +8,22 @@ use Rattle.little.proofs.tables.long_fields_in.Statement.{statement}
 use Rattle.little.proofs.tables.long_fields_in.Tie as tie
 
 abbrev Inv-loop : tie.InvT-loop
-Inv-loop bytes at stride width count table₀ i₀ table i = FilledTo count (column width at stride bytes) table₀ i table
+Inv-loop bytes at stride count table₀ i₀ table i = FilledTo count (column 8 at stride bytes) table₀ i table
 
 abbrev μ-loop : tie.MeasureT-loop
-μ-loop bytes at stride width count table₀ i₀ table i = count - i
+μ-loop bytes at stride count table₀ i₀ table i = count - i
 
 loop-holds : tie.Need-loop-holds Inv-loop μ-loop
 loop-holds c = fill-none _ _ _
 
-mul-read-le : tie.Need-mul-read-le Inv-loop μ-loop
-mul-read-le c = record { fits = omega (arith, c .before .before .before .before .pre .2 (c .before .loop .i) (c .loop-test .taken)) }
+mul-read-u64 : tie.Need-mul-read-u64 Inv-loop μ-loop
+mul-read-u64 c = record { fits = omega (arith, c .before .before .before .before .pre .1 (c .before .loop .i) (c .loop-test .taken)) }
 
-add-read-le : tie.Need-add-read-le Inv-loop μ-loop
-add-read-le c = record { fits = omega (arith, c .before .before .before .before .pre .2 (c .before .loop .i) (c .loop-test .taken)) }
+add-read-u64 : tie.Need-add-read-u64 Inv-loop μ-loop
+add-read-u64 c = record { fits = omega (arith, c .before .before .before .before .pre .1 (c .before .loop .i) (c .loop-test .taken)) }
 
-read-le-requires : tie.Need-read-le-requires Inv-loop μ-loop
-read-le-requires c κs = let pre = c .before .before .before .before .pre in (pre .2 (c .before .loop .i) (c .loop-test .taken), pre .0)
+read-u64-requires : tie.Need-read-u64-requires Inv-loop μ-loop
+read-u64-requires c κs = let pre = c .before .before .before .before .pre in pre .1 (c .before .loop .i) (c .loop-test .taken)
 
 mul-table : tie.Need-mul-table Inv-loop μ-loop
 mul-table c = search needs
@@ -41,8 +41,8 @@ loop-again : tie.Need-loop-again Inv-loop μ-loop
 loop-again c =
     let l = c .before .before .loop in
     let a = c .before .before .before .before .before .args in
-    let f = column (a .width) (a .at) (a .stride) (a .bytes .now) in
-    fill-next (a .count) f (a .table .now) (l .i) (l .table) (l .inv) (c .before .loop-test .taken) (c .read-le .result) (c .read-le .ensures .0)
+    let f = column 8 (a .at) (a .stride) (a .bytes .now) in
+    fill-next (a .count) f (a .table .now) (l .i) (l .table) (l .inv) (c .before .loop-test .taken) (c .read-u64 .result) (c .read-u64 .ensures)
 
 same-length : tie.Need-same-length Inv-loop μ-loop
 same-length c = search needs
@@ -57,9 +57,9 @@ long-fields-in-spec =
     Inv-loop
     μ-loop
     loop-holds
-    mul-read-le
-    add-read-le
-    read-le-requires
+    mul-read-u64
+    add-read-u64
+    read-u64-requires
     mul-table
     slice-write-table
     add-i

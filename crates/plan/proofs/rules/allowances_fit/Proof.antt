@@ -1,26 +1,24 @@
 -- The allowances before place i are in their range.
 use mathlib.Core.Bool.{Bool, false}
+use mathlib.Core.List.{List}
 use Prim.Native.Nat.{ℕ, _-_}
 use borrow.Author.Needs.{needs}
+use lib.ListN.{getD}
 use Rattle.walk.specs.Units.{allowanceLimit}
 use Rattle.plan.specs.Places.{within}
-use Rattle.plan.specs.Plan.{allowanceAt, rule3}
-use Rattle.plan.specs.declared.Plan.{Plan}
+use Rattle.plan.specs.Plan.{rule3}
 use Rattle.plan.proofs.PlaceLaws.{within-reads, within-low, within-high, Sought, sought-none, sought-next, sought-here, sought-nowhere}
 use Rattle.plan.proofs.rules.allowances_fit.Statement.{statement}
 use Rattle.plan.proofs.rules.allowances_fit.Tie as tie
 
-abbrev fits : Plan → ℕ → Bool
-fits p i = within 1 allowanceLimit (allowanceAt p i)
+abbrev fits : List ℕ → ℕ → Bool
+fits xs i = within 1 allowanceLimit (getD xs i 0)
 
 abbrev Inv-loop : tie.InvT-loop
-Inv-loop p count i₀ i = Sought false (fits p) count i
+Inv-loop xs count i₀ i = Sought false (fits xs) count i
 
 abbrev μ-loop : tie.MeasureT-loop
-μ-loop p count i₀ i = count - i
-
-cast-count : tie.Need-cast-count Inv-loop μ-loop
-cast-count c = search needs
+μ-loop xs count i₀ i = count - i
 
 loop-holds : tie.Need-loop-holds Inv-loop μ-loop
 loop-holds c = sought-none false _
@@ -33,14 +31,16 @@ element-copy-out-x c = search needs
 
 returns : tie.Need-returns Inv-loop μ-loop
 unfolding rule3
-returns c =
-    sought-here false _ (c .before .before .before .loop .inv) (c .before .before .loop-test .taken) (within-low 1 allowanceLimit _ (c .if1 .taken))
+returns c p count xs =
+    rw (count, xs)
+    (sought-here false _ (c .before .before .before .loop .inv) (c .before .before .loop-test .taken) (within-low 1 allowanceLimit _ (c .if1 .taken)))
 
 returns-2 : tie.Need-returns-2 Inv-loop μ-loop
 unfolding rule3 allowanceLimit
-returns-2 c =
-    sought-here false _ (c .before .before .before .before .loop .inv) (c .before .before .before .loop-test .taken)
-    (within-high 1 allowanceLimit _ (c .if2 .taken))
+returns-2 c p count xs =
+    rw (count, xs)
+    (sought-here false _ (c .before .before .before .before .loop .inv) (c .before .before .before .loop-test .taken)
+    (within-high 1 allowanceLimit _ (c .if2 .taken)))
 
 add-i : tie.Need-add-i Inv-loop μ-loop
 add-i c = search needs
@@ -56,7 +56,7 @@ loop-again c =
 
 returns-3 : tie.Need-returns-3 Inv-loop μ-loop
 unfolding rule3
-returns-3 c = sought-nowhere false _ (c .before .loop .inv) (c .loop-test .left)
+returns-3 c p count xs = rw (count, xs) (sought-nowhere false _ (c .before .loop .inv) (c .loop-test .left))
 
 pub allowances-fit-spec : {M : Type 1} → statement M
 allowances-fit-spec =
@@ -64,7 +64,6 @@ allowances-fit-spec =
     (tie.spec
     Inv-loop
     μ-loop
-    cast-count
     loop-holds
     mul-x
     element-copy-out-x

@@ -1,5 +1,5 @@
 -- The parts before place i are read.
-use Rattle.saved_test.proofs.ReadingLaws.{part-made, part-few, part-inside, offset-next, offset-first}
+use Rattle.saved_test.proofs.ReadingLaws.{part-made, held-few, held-inside, offset-next, offset-first}
 use Rattle.saved_test.specs.Reading.{recordIn, massOffset, partIn}
 use Rattle.saved_test.specs.Form.{recordOffset, formSize, liveCount}
 use Rattle.bucket_test.proofs.TurningLaws.{part-length, part-lent, words-none, words-all, part-put}
@@ -41,7 +41,7 @@ add-record-from c = search needs
 
 record-from-requires : tie.Need-record-from-requires Inv-loop μ-loop
 unfolding formSize recordOffset
-record-from-requires c κs = omega (arith, c .before .before .before .before .pre .3)
+record-from-requires c κs = omega (arith, c .before .before .before .before .pre .2 .sized)
 
 live-count-requires : tie.Need-live-count-requires Inv-loop μ-loop
 live-count-requires c κs = search needs
@@ -76,8 +76,7 @@ fits-at c =
     let s = c .before .before .before .before .before .before in
     let l = c .before .before .before .loop in
     let h = c .before .before .loop-test .taken in
-    rw (live-is c, l .inv .4)
-    (part-few (s .args .bytes .now) (s .args .count) (l .i) h (s .pre .2) (s .pre .3), part-inside (s .args .bytes .now) (s .args .count) (l .i) h (s .pre .2) (s .pre .3))
+    (held-few _ _ (s .pre .2) (l .i) h _ (l .at) (live-is c) (l .inv .4), held-inside _ _ (s .pre .2) (l .i) h _ (l .at) (live-is c) (l .inv .4))
 
 part-in-requires : tie.Need-part-in-requires Inv-loop μ-loop
 unfolding wide

@@ -1,31 +1,33 @@
 -- The thresholds before place i pass.
-use mathlib.Core.Path.{_≡_, _∙_}
-use mathlib.Core.Bool.{false}
-use Prim.Native.Nat.{_+_, _*_, _-_, _≤_}
+use mathlib.Core.Path.{_≡_, refl, ap, _∙_}
+use mathlib.Core.Bool.{Bool, false}
+use mathlib.Core.List.{List}
+use Prim.Native.Nat.{ℕ, _+_, _*_, _-_, _≤_}
 use native.Mathlib.Omega.{arith}
-use lib.ListN.{length}
+use lib.ListN.{length, getD}
 use Rattle.walk.specs.Units.{wide}
-use Rattle.plan.specs.Plan.{countLimit, spendingOf}
+use Rattle.walk.specs.Spending.{spending}
 use Rattle.plan.proofs.PlaceLaws.{passed, failed, Sought, sought-none, sought-next, sought-here, sought-nowhere}
-use Rattle.plan.proofs.AcceptedLaws.{accepted}
-use Rattle.saved_test.specs.Reading.{massOffset}
-use Rattle.saved_test.proofs.ReadingLaws.{passes, offset-first, held-few, held-inside, held-next, held-passes}
+use Rattle.bucket_test.specs.Turn.{recordSound}
+use Rattle.bucket_test.specs.declared.Threshold.{Threshold}
+use Rattle.saved_test.specs.Form.{recordOffset, formSize, liveCount}
+use Rattle.saved_test.specs.Reading.{recordIn, massOffset, partIn}
+use Rattle.saved_test.proofs.ReadingLaws.{offset-first, held-few, held-inside, held-next, held-sound}
 use borrow.Author.Needs.{needs}
 use Rattle.saved_test.proofs.reading.parts_sound.Statement.{statement}
 use Rattle.saved_test.proofs.reading.parts_sound.Tie as tie
 
+-- the threshold at place i passes
+abbrev passes : List ℕ → ℕ → ℕ → List ℕ → ℕ → ℕ → ℕ → Bool
+passes allowances count delay bytes n ones i =
+    recordSound (spending (getD allowances i 0) delay n) n ones (recordIn bytes i .mark) (recordIn bytes i) (partIn bytes count i)
+
 abbrev Inv-loop : tie.InvT-loop
-Inv-loop bytes part₀ p s count at₀ i₀ part at i =
-    (count ≤ countLimit) × (length part ≡ wide) × (at ≡ massOffset bytes count i) × Sought false (passes p bytes s) count i
+Inv-loop allowances count delay bytes n ones part₀ at₀ i₀ part at i =
+    (length part ≡ length part₀) × (at ≡ massOffset bytes count i) × Sought false (passes allowances count delay bytes n ones) count i
 
 abbrev μ-loop : tie.MeasureT-loop
-μ-loop bytes part₀ p s count at₀ i₀ part at i = count - i
-
-cast-count : tie.Need-cast-count Inv-loop μ-loop
-cast-count c = search needs
-
-few : (c : tie.Start Inv-loop μ-loop) → c .args .t1 .count ≤ countLimit
-few c = accepted (c .args .t1) .0 (c .pre .0) .count-range .1
+μ-loop allowances count delay bytes n ones part₀ at₀ i₀ part at i = count - i
 
 mul-at : tie.Need-mul-at Inv-loop μ-loop
 mul-at c = search needs
@@ -34,15 +36,17 @@ add-at : tie.Need-add-at Inv-loop μ-loop
 add-at c = search needs
 
 loop-holds : tie.Need-loop-holds Inv-loop μ-loop
-loop-holds c =
-    let s = c .before .before in
-    (few s, s .pre .4, offset-first (s .args .bytes .now) (s .args .t1 .count), sought-none false _)
+loop-holds c = (refl, offset-first _ _, sought-none false _)
 
-mul-t : tie.Need-mul-t Inv-loop μ-loop
-mul-t c = search needs
+mul-record-from : tie.Need-mul-record-from Inv-loop μ-loop
+mul-record-from c = search needs
 
-element-copy-out-t : tie.Need-element-copy-out-t Inv-loop μ-loop
-element-copy-out-t c = omega (arith, c .before .loop .inv .0, c .loop-test .taken)
+add-record-from : tie.Need-add-record-from Inv-loop μ-loop
+add-record-from c = search needs
+
+record-from-requires : tie.Need-record-from-requires Inv-loop μ-loop
+unfolding formSize recordOffset
+record-from-requires c κs = let s = c .before .before .before .before in omega (arith, s .pre .4 .sized, c .loop-test .taken)
 
 live-count-requires : tie.Need-live-count-requires Inv-loop μ-loop
 live-count-requires c κs = search needs
@@ -52,31 +56,44 @@ module _ (c : tie.After-live-count Inv-loop μ-loop) where
   abbrev start : tie.Start Inv-loop μ-loop
   start = c .before .before .before .before .before .before
 
+  abbrev i : ℕ
+  i = c .before .before .before .loop .i
+
+  is : c .before .record-from .result ≡ recordIn (start .args .bytes .now) i
+  unfolding recordOffset
+  is = c .before .record-from .ensures
+
+  live : c .live-count .result ≡ liveCount (recordIn (start .args .bytes .now) i)
+  live = c .live-count .ensures .0 ∙ ap (λ (t : Threshold). liveCount t) is
+
   lent : (c .live-count .result ≤ wide) × (c .before .before .before .loop .at + 8 * c .live-count .result ≤ length (start .args .bytes .now))
-      × (c .before .before .before .loop .at + 8 * c .live-count .result ≡ massOffset (start .args .bytes .now) (start .args .t1 .count) (c .before .before .before .loop .i + 1))
+      × (c .before .before .before .loop .at + 8 * c .live-count .result ≡ massOffset (start .args .bytes .now) (start .args .count) (i + 1))
+      × (c .live-count .result ≤ length (c .before .before .before .loop .part))
   lent =
       let l = c .before .before .before .loop in
       let h = c .before .before .loop-test .taken in
       let s = start in (
-        held-few (s .args .t1) (s .args .bytes .now) (s .args .t3) (s .pre .0) (s .pre .1) (s .pre .2) (l .i) h _ (l .at) (c .live-count .ensures .0) (l .inv .2),
-        held-inside (s .args .t1) (s .args .bytes .now) (s .args .t3) (s .pre .0) (s .pre .1) (s .pre .2) (l .i) h _ (l .at) (c .live-count .ensures .0) (l .inv .2),
-        held-next (s .args .t1) (s .args .bytes .now) (s .args .t3) (s .pre .0) (s .pre .1) (s .pre .2) (l .i) h _ (l .at) (c .live-count .ensures .0) (l .inv .2),
+        held-few _ _ (s .pre .4) i h _ (l .at) live (l .inv .1),
+        held-inside _ _ (s .pre .4) i h _ (l .at) live (l .inv .1),
+        held-next _ _ (s .pre .4) i h _ (l .at) live (l .inv .1),
+        omega (arith, s .pre .5 i h, live, l .inv .0),
       )
 
 front-in-requires : tie.Need-front-in-requires Inv-loop μ-loop
-front-in-requires c κs = (omega (arith, c .before .before .before .before .loop .inv .1, lent (c .before) .0), lent (c .before) .1)
+front-in-requires c κs = (lent (c .before) .3, lent (c .before) .1)
 
 mul-spending-at : tie.Need-mul-spending-at Inv-loop μ-loop
 mul-spending-at c = search needs
 
 element-copy-out-spending-at : tie.Need-element-copy-out-spending-at Inv-loop μ-loop
-element-copy-out-spending-at c = omega (arith, c .before .before .before .before .before .before .before .loop .inv .0, c .before .before .before .before .before .before .loop-test .taken)
+element-copy-out-spending-at c =
+    omega (arith, start (c .before .before .before .before) .pre .0, c .before .before .before .before .before .before .loop-test .taken)
 
 spending-at-requires : tie.Need-spending-at-requires Inv-loop μ-loop
 spending-at-requires c κs =
-    let s = c .before .before .before .before .before .before .before .before .before .before .before in
-    let ok = accepted (s .args .t1) .0 (s .pre .0) in
-    (ok .allowance-range (c .before .before .before .before .before .before .before .before .loop .i) (c .before .before .before .before .before .before .before .loop-test .taken) .1, ok .delay-range .0, s .pre .3)
+    let b = c .before .before .before .before .before in
+    let s = start b in
+    (s .pre .1 (i b) (b .before .before .loop-test .taken), s .pre .2, s .pre .3)
 
 record-sound-requires : tie.Need-record-sound-requires Inv-loop μ-loop
 record-sound-requires c κs = search needs
@@ -86,22 +103,21 @@ same-length c = search needs
 
 judged : (c : tie.After-record-sound Inv-loop μ-loop)
     → let b = c .before .before .before .before .before .before .before .before in
-    c .record-sound .result ≡ passes (start b .args .t1) (start b .args .bytes .now) (start b .args .t3) (b .before .before .before .loop .i)
-unfolding spendingOf
+    let a = start b .args in
+    c .record-sound .result ≡ passes (a .allowances .now) (a .count) (a .delay) (a .bytes .now) (a .n) (a .ones) (i b)
 judged c =
     let b = c .before .before .before .before .before .before .before .before in
-    let s = start b in
     let l = b .before .before .before .loop in
     c .record-sound .ensures
     ∙ rw (c .before .before .spending-at .ensures)
-    (held-passes (s .args .t1) (s .args .bytes .now) (s .args .t3) (s .pre .0) (s .pre .1) (s .pre .2) (l .i) (b .before .before .loop-test .taken) _ (l .at)
-    (b .live-count .ensures .0) (l .inv .2) _ _ (c .before .before .before .before .before .before .front-in .ensures) (l .inv .1))
+    (held-sound _ _ (start b .pre .4) (i b) (b .before .before .loop-test .taken) _ (l .at) (live b) (l .inv .1) _ (is b) _ _
+    (c .before .before .before .before .before .before .front-in .ensures) (lent b .3) _ _ _)
 
 returns : tie.Need-returns Inv-loop μ-loop
 returns c =
     let b = c .before .before .before .before .before .before .before .before .before in
     let l = b .before .before .before .loop in
-    sought-here false _ (l .inv .3) (b .before .before .loop-test .taken) (failed (judged (c .before)) (c .if1 .taken))
+    sought-here false _ (l .inv .2) (b .before .before .loop-test .taken) (failed (judged (c .before)) (c .if1 .taken))
 
 mul-at-2 : tie.Need-mul-at-2 Inv-loop μ-loop
 mul-at-2 c = let k = lent (c .before .before .before .before .before .before .before .before .before) in record { fits = omega (arith, k .0) }
@@ -119,13 +135,13 @@ loop-again : tie.Need-loop-again Inv-loop μ-loop
 loop-again c =
     let b = c .before .before .before .before .before .before .before .before .before in
     let l = b .before .before .before .loop in
-    (l .inv .0, search needs, lent b .2, sought-next false _ (l .inv .3) (b .before .before .loop-test .taken) (passed (judged (c .before)) (c .if1 .left)))
+    (search needs, lent b .2, sought-next false _ (l .inv .2) (b .before .before .loop-test .taken) (passed (judged (c .before)) (c .if1 .left)))
 
 same-length-2 : tie.Need-same-length-2 Inv-loop μ-loop
 same-length-2 c = search needs
 
 returns-2 : tie.Need-returns-2 Inv-loop μ-loop
-returns-2 c = sought-nowhere false _ (c .before .loop .inv .3) (c .loop-test .left)
+returns-2 c = sought-nowhere false _ (c .before .loop .inv .2) (c .loop-test .left)
 
 pub parts-sound-spec : {M : Type 1} → statement M
 parts-sound-spec =
@@ -133,12 +149,12 @@ parts-sound-spec =
     (tie.spec
     Inv-loop
     μ-loop
-    cast-count
     mul-at
     add-at
     loop-holds
-    mul-t
-    element-copy-out-t
+    mul-record-from
+    add-record-from
+    record-from-requires
     live-count-requires
     front-in-requires
     mul-spending-at

@@ -1,5 +1,5 @@
 -- The refusals in their order, then the words.
-use mathlib.Core.Path.{_≡_, sym, ap, _∙_}
+use mathlib.Core.Path.{_≡_, sym, _∙_}
 use mathlib.Core.Bool.{true}
 use Prim.Native.Nat.{_*_, _≤_}
 use lib.ListN.{length}
@@ -7,10 +7,8 @@ use Rattle.walk.specs.Units.{wide}
 use Rattle.plan.specs.Plan.{countLimit, planRefusal}
 use Rattle.plan.proofs.AcceptedLaws.{accepted}
 use Rattle.plan.proofs.PlaceLaws.{passed, failed}
-use Rattle.bucket_test.specs.Draw.{stateSound}
-use Rattle.bucket_test.specs.declared.State.{State}
-use Rattle.saved_test.specs.Reading.{formFits, stateIn, wordsIn}
-use Rattle.saved_test.proofs.ReadingLaws.{form-judged, form-long, form-known, form-sized, read-form, read-11, read-none, words-made}
+use Rattle.saved_test.specs.Reading.{formFits}
+use Rattle.saved_test.proofs.ReadingLaws.{form-judged, form-long, form-held, read-form, read-11, read-none, words-made}
 use borrow.Author.Needs.{needs}
 use Rattle.saved_test.proofs.reading.read_test.Statement.{statement}
 use Rattle.saved_test.proofs.reading.read_test.Tie as tie
@@ -36,26 +34,20 @@ module _ (c : tie.Else1) where
   few : start .args .p .count ≤ countLimit
   few = accepted (start .args .p) .0 (fit .0) .count-range .1
 
-state-in-requires : tie.Need-state-in-requires
-state-in-requires c κs = (few c, form-long _ _ (fit c .1 .1))
-
 may-read-requires : tie.Need-may-read-requires
-may-read-requires c κs = (fit (c .before) .0, fit (c .before) .1 .1, c .state-in .ensures)
-
-judged : (c : tie.After-may-read)
-    → let a = start (c .before .before) .args in
-    c .may-read .result ≡ stateSound (a .p) (stateIn (a .p) (a .bytes .now)) (wordsIn (a .p) (a .bytes .now))
-judged c =
-    let a = start (c .before .before) .args in
-    c .may-read .ensures ∙ ap (λ (s : State). stateSound (a .p) s (wordsIn (a .p) (a .bytes .now))) (c .before .state-in .ensures)
+may-read-requires c κs = (fit c .0, fit c .1 .1)
 
 refused-requires-2 : tie.Need-refused-requires-2
 refused-requires-2 c κs = search needs
 
 returns-2 : tie.Need-returns-2
 returns-2 c =
-    let b = c .before .before .before .before in
-    read-11 _ _ _ _ (b .before .form-refusal .ensures) (b .if1 .left) (failed (judged (c .before .before)) (c .before .if2 .taken)) _ (c .refused2 .ensures)
+    let b = c .before .before .before in
+    read-11 _ _ _ _ (b .before .form-refusal .ensures) (b .if1 .left) (failed (c .before .before .may-read .ensures) (c .before .if2 .taken)) _
+    (c .refused2 .ensures)
+
+state-in-requires : tie.Need-state-in-requires
+state-in-requires c κs = let b = c .before .before in (few b, form-long _ _ (fit b .1 .1))
 
 cast-parts-in : tie.Need-cast-parts-in
 cast-parts-in c = search needs
@@ -63,7 +55,7 @@ cast-parts-in c = search needs
 parts-in-requires : tie.Need-parts-in-requires
 parts-in-requires c κs =
     let b = c .before .before .before .before .before in
-    (few b, fit b .1 .0, form-known _ _ (fit b .1 .1), form-sized _ _ (fit b .1 .1))
+    (few b, fit b .1 .0, form-held _ _ (fit b .1 .1))
 
 same-length : tie.Need-same-length
 same-length c = search needs
@@ -71,9 +63,9 @@ same-length c = search needs
 returns-3 : tie.Need-returns-3
 returns-3 c =
     let b = c .before .before .before .before .before .before .before .before in
-    let sound = passed (judged (c .before .before .before .before .before .before)) (c .before .before .before .before .before .if2 .left) in
-    read-none _ _ _ _ (b .before .form-refusal .ensures) (b .if1 .left) sound _ (c .before .before .before .before .before .before .before .state-in .ensures) _
-    (words-made _ _ _ (c .before .before .parts-in .ensures))
+    read-none _ _ _ _ (b .before .form-refusal .ensures) (b .if1 .left)
+    (passed (c .before .before .before .before .before .before .before .may-read .ensures) (c .before .before .before .before .before .before .if2 .left)) _
+    (c .before .before .before .before .before .state-in .ensures) _ (words-made _ _ _ (c .before .before .parts-in .ensures))
 
 pub read-test-spec : {M : Type 1} → statement M
 read-test-spec =
@@ -82,10 +74,10 @@ read-test-spec =
     form-refusal-requires
     refused-requires
     returns
-    state-in-requires
     may-read-requires
     refused-requires-2
     returns-2
+    state-in-requires
     cast-parts-in
     parts-in-requires
     same-length

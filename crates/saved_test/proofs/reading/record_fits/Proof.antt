@@ -28,12 +28,16 @@ known c = c .mark-known .ensures ∙ rw (c .before .read-u322 .ensures .0, c .be
 returns : tie.Need-returns
 returns c = rw (failed (known (c .before)) (c .if1 .taken))
 
+record-from-requires : tie.Need-record-from-requires
+record-from-requires c κs = search needs
+
 count-fits-requires : tie.Need-count-fits-requires
 count-fits-requires c κs = search needs
 
 returns-2 : tie.Need-returns-2
-returns-2 c = rw (passed (known (c .before .before)) (c .before .if1 .left))
-    (c .count-fits .ensures ∙ ap (λ (t : Threshold). countFits (t .mark) (t .walked)) (c .before .before .before .before .before .before .pre .1))
+returns-2 c =
+    rw (passed (known (c .before .before .before)) (c .before .before .if1 .left))
+    (c .count-fits .ensures ∙ ap (λ (t : Threshold). countFits (t .mark) (t .walked)) (c .before .record-from .ensures))
 
 pub record-fits-spec : {M : Type 1} → statement M
 record-fits-spec =
@@ -44,5 +48,6 @@ record-fits-spec =
     read-u32-requires-2
     mark-known-requires
     returns
+    record-from-requires
     count-fits-requires
     returns-2)

@@ -25,17 +25,17 @@ add-read-u32-3 c = search needs
 read-u32-requires-4 : tie.Need-read-u32-requires-4
 read-u32-requires-4 c κs = search needs
 
-add-read-le : tie.Need-add-read-le
-add-read-le c = search needs
+add-read-u64 : tie.Need-add-read-u64
+add-read-u64 c = search needs
 
-read-le-requires : tie.Need-read-le-requires
-read-le-requires c κs = search needs
+read-u64-requires : tie.Need-read-u64-requires
+read-u64-requires c κs = search needs
 
-add-read-le-2 : tie.Need-add-read-le-2
-add-read-le-2 c = search needs
+add-read-u64-2 : tie.Need-add-read-u64-2
+add-read-u64-2 c = search needs
 
-read-le-requires-2 : tie.Need-read-le-requires-2
-read-le-requires-2 c κs = search needs
+read-u64-requires-2 : tie.Need-read-u64-requires-2
+read-u64-requires-2 c κs = search needs
 
 mark-of-requires : tie.Need-mark-of-requires
 mark-of-requires c κs = search needs
@@ -45,17 +45,17 @@ signed-of-requires c κs = search needs
 
 returns : tie.Need-returns
 returns c =
-    let b = c .before .before in
+    let b = c .before .before .before in
     record-made _ _ _ _ _ _ _ _ _ _
-    (b .before .before .before .before .before .read-u32 .ensures .0)
-    (b .before .before .before .before .read-u322 .ensures .0)
-    (b .before .before .before .read-u323 .ensures .0)
-    (b .before .before .before .read-u323 .ensures .1)
-    (b .before .before .read-u324 .ensures .0)
-    (b .before .read-le .ensures .0)
-    (b .read-le2 .ensures .0)
-    (c .before .mark-of .ensures)
-    (c .signed-of .ensures)
+    (b .before .before .before .before .read-u32 .ensures .0)
+    (b .before .before .before .read-u322 .ensures .0)
+    (b .before .read-u323 .ensures .0)
+    (b .before .read-u323 .ensures .1)
+    (c .before .before .read-u324 .ensures .0)
+    (c .before .read-u64 .ensures)
+    (c .read-u642 .ensures)
+    (b .before .before .mark-of .ensures)
+    (b .signed-of .ensures)
 
 pub record-from-spec : {M : Type 1} → statement M
 record-from-spec =
@@ -64,14 +64,14 @@ record-from-spec =
     read-u32-requires
     add-read-u32
     read-u32-requires-2
+    mark-of-requires
     add-read-u32-2
     read-u32-requires-3
+    signed-of-requires
     add-read-u32-3
     read-u32-requires-4
-    add-read-le
-    read-le-requires
-    add-read-le-2
-    read-le-requires-2
-    mark-of-requires
-    signed-of-requires
+    add-read-u64
+    read-u64-requires
+    add-read-u64-2
+    read-u64-requires-2
     returns)

@@ -1,4 +1,5 @@
 -- Header, then records.
+use mathlib.Core.Path.{refl, sym}
 use native.Mathlib.Omega.{arith}
 use Rattle.saved_test.specs.Form.{recordOffset}
 use Rattle.saved_test.proofs.WritingLaws.{front-put, few-masses}
@@ -17,7 +18,7 @@ unfolding recordOffset
 write-header-requires c κs =
     let s = c .before .before .before .before .before in
     let masses = c .before .masses-of .ensures .0 in
-    (s .pre .0, omega (arith, s .pre .2), masses, few-masses (s .args .p) (s .args .s) _ masses (s .pre .0) (s .pre .1))
+    (s .pre .0, omega (arith, s .pre .2), few-masses (s .args .p) (s .args .s) _ masses (s .pre .0) (s .pre .1))
 
 write-records-requires : tie.Need-write-records-requires
 unfolding recordOffset
@@ -29,7 +30,7 @@ same-length c = search needs
 returns : tie.Need-returns
 returns c =
     let s = c .before .before .before .before .before .before .before .before .before .before .before .before in
-    front-put (s .args .p) (s .args .s) (s .args .bytes .now) _ _ (c .before .before .before .before .before .before .write-header .ensures) (c .before .before .write-records .ensures)
+    front-put (s .args .p) (s .args .s) (s .args .bytes .now) _ _ (c .before .before .before .before .before .before .write-header .ensures _ _ refl (sym (c .before .before .before .before .before .before .before .before .masses-of .ensures .0)) refl refl) (c .before .before .write-records .ensures)
 
 pub write-front-spec : {M : Type 1} → statement M
 write-front-spec = tie.close (tie.spec cast-count masses-of-requires write-header-requires write-records-requires same-length returns)

@@ -6,9 +6,6 @@ use borrow.Author.Needs.{needs}
 use Rattle.saved_test.proofs.writing.write_header.Statement.{statement}
 use Rattle.saved_test.proofs.writing.write_header.Tie as tie
 
-cast-offset : tie.Need-cast-offset
-cast-offset c = search needs
-
 mul-offset : tie.Need-mul-offset
 mul-offset c = search needs
 
@@ -17,27 +14,29 @@ add-offset c = search needs
 
 mul-size : tie.Need-mul-size
 unfolding wide
-mul-size c = let s = c .before .before in record { fits = omega (arith, s .pre .3) }
+mul-size c = record { fits = omega (arith, c .before .pre .2) }
 
 add-size : tie.Need-add-size
 unfolding wide
-add-size c = let s = c .before .before in record { fits = omega (arith, s .pre .0, s .pre .3) }
-
-write-two-requires : tie.Need-write-two-requires
-write-two-requires c κs = search needs
+add-size c = record { fits = omega (arith, c .before .pre .0, c .before .pre .2) }
 
 cast-write-two : tie.Need-cast-write-two
 cast-write-two c = search needs
 
+write-two-requires : tie.Need-write-two-requires
+write-two-requires c κs = search needs
+
+cast-write-two-2 : tie.Need-cast-write-two-2
+cast-write-two-2 c = search needs
+
 write-two-requires-2 : tie.Need-write-two-requires-2
 write-two-requires-2 c κs = search needs
 
-cast-write-two-2 : tie.Need-cast-write-two-2
-unfolding wide
-cast-write-two-2 c = let s = c .before .before .before .before .before .before .before .before .before .before .before in record { fits = omega (arith, s .pre .0, s .pre .3) }
-
 cast-write-two-3 : tie.Need-cast-write-two-3
-cast-write-two-3 c = search needs
+unfolding wide
+cast-write-two-3 c =
+    let s = c .before .before .before .before .before .before .before .before .before .before in
+    record { fits = omega (arith, s .pre .0, s .pre .2) }
 
 write-two-requires-3 : tie.Need-write-two-requires-3
 write-two-requires-3 c κs = search needs
@@ -53,23 +52,22 @@ same-length c = search needs
 
 returns : tie.Need-returns
 returns c =
-    let s = c .before .before .before .before .before .before .before .before .before .before .before .before .before .before .before .before .before .before .before .before .before .before .before in
-    header-put _ _ _ (s .pre .2) _ _ _ _ _ _ (c .before .before .before .before .before .before .before .before .before .before .before .before .before .before .before .before .before .before .before .write-two .ensures) (c .before .before .before .before .before .before .before .before .before .before .before .before .before .before .before .write-two2 .ensures) (c .before .before .before .before .before .before .before .before .before .before .write-two3 .ensures) (c .before .before .before .before .before .before .write-two4 .ensures)
-    (c .before .before .write-le .ensures)
+    λ p t k m n o.
+    header-put p t _ _ _ _ k m n o _ _ _ _ _ _ (c .before .before .before .before .before .before .before .before .before .before .before .before .before .before .before .before .before .before .write-two .ensures) (c .before .before .before .before .before .before .before .before .before .before .before .before .before .before .write-two2 .ensures)
+    (c .before .before .before .before .before .before .before .before .before .before .write-two3 .ensures) (c .before .before .before .before .before .before .write-two4 .ensures) (c .before .before .write-le .ensures)
 
 pub write-header-spec : {M : Type 1} → statement M
 write-header-spec =
     tie.close
     (tie.spec
-    cast-offset
     mul-offset
     add-offset
     mul-size
     add-size
-    write-two-requires
     cast-write-two
-    write-two-requires-2
+    write-two-requires
     cast-write-two-2
+    write-two-requires-2
     cast-write-two-3
     write-two-requires-3
     write-two-requires-4

@@ -6,11 +6,11 @@ use Rattle.stored_plan.proofs.Refusals.{first-three}
 use Rattle.stored_plan.proofs.reading.form_refusal.Statement.{statement}
 use Rattle.stored_plan.proofs.reading.form_refusal.Tie as tie
 
-read-u32-requires : tie.Need-read-u32-requires
-read-u32-requires c κs = search needs
+read-u16-requires : tie.Need-read-u16-requires
+read-u16-requires c κs = search needs
 
-read-u32-requires-2 : tie.Need-read-u32-requires-2
-read-u32-requires-2 c κs = search needs
+read-u16-requires-2 : tie.Need-read-u16-requires-2
+read-u16-requires-2 c κs = search needs
 
 counts-fit-requires : tie.Need-counts-fit-requires
 counts-fit-requires c κs = search needs
@@ -45,8 +45,8 @@ returns c =
     let fit = c .before .before .before .before .before .offsets-fit in
     let counts = c .before .before .before .before .before .before .unless in
     let counted = c .before .before .before .before .before .before .before .counts-fit in
-    let b = c .before .before .before .before .before .before .before .before .read-u322 in
-    let k = c .before .before .before .before .before .before .before .before .before .read-u32 in
+    let b = c .before .before .before .before .before .before .before .before .read-u162 in
+    let k = c .before .before .before .before .before .before .before .before .before .read-u16 in
     first-three
     (c .first-refusal2 .ensures)
     (c .before .first-refusal .ensures)
@@ -58,8 +58,8 @@ pub form-refusal-spec : {M : Type 1} → statement M
 form-refusal-spec =
     tie.close
     (tie.spec
-    read-u32-requires
-    read-u32-requires-2
+    read-u16-requires
+    read-u16-requires-2
     counts-fit-requires
     unless-requires
     offsets-fit-requires

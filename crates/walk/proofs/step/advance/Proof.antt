@@ -23,7 +23,7 @@ unfolding rowOf
 spread-requires c κs =
     let s = c .before .before .before .before .before .pre in
     let f = first-is (counted s) (c .before .before .first-above .ensures) in
-    (omega (arith, f, s .size, s .narrow, order s), s .threshold, rw f (s .small))
+    (omega (arith, f, s .room), s .threshold, rw f (s .small))
 
 add-m : tie.Need-add-m
 add-m c = search needs
@@ -35,7 +35,7 @@ trim-requires c κs =
     let spread = c .before .before .before .spread in
     let live = c .before .before .before .before .before .before .first-above in
     let f = first-is (counted s) (live .ensures) in
-    omega (arith, f, spread .kept .0, s .size, s .narrow, order s, s .sound, more s (live .result) f (spread .last .0) (spread .ensures))
+    omega (arith, f, spread .kept .0, s .room, s .sound, more s (live .result) f (spread .last .0) (spread .ensures))
 
 -- after `trim`: both places are among the words, and the record is the definition's
 module _ (c : tie.After-trim) where

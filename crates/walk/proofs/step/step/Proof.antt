@@ -11,19 +11,19 @@ advance-requires : tie.Need-advance-requires
 advance-requires c κs = search needs
 
 first-above-requires : tie.Need-first-above-requires
-first-above-requires c κs = let n = c .before .before .before in counted-bits (next-counted (n .before .before .before .pre) (n .advance .ensures .0))
+first-above-requires c κs = let n = c .before .before .before in counted-bits (next-counted (n .before .before .before .pre .0) (n .advance .ensures .0))
 
 -- where the new masses end
 f-is : (c : tie.After-first-above)
     → c .first-above .result ≡ firstAbove (c .before .before .before .before .advance .result .lower)
 f-is c =
     let n = c .before .before .before .before in
-    first-is (next-counted (n .before .before .before .pre) (n .advance .ensures .0)) (c .first-above .ensures)
+    first-is (next-counted (n .before .before .before .pre .0) (n .advance .ensures .0)) (c .first-above .ensures)
 
 sub-k : tie.Need-sub-k
 sub-k c =
     let n = c .before .before .before .before .before in
-    omega (arith, live-is (n .before .before .before .pre) (n .advance .ensures .0) _ (f-is (c .before)))
+    omega (arith, live-is (n .before .before .before .pre .0) (n .advance .ensures .0) _ (f-is (c .before)))
 
 cast-k : tie.Need-cast-k
 cast-k c = search needs
@@ -31,8 +31,8 @@ cast-k c = search needs
 clear-from-requires : tie.Need-clear-from-requires
 clear-from-requires c κs =
     let n = c .before .before .before .before .before .before in
-    let s = n .before .before .before .pre in
-    omega (arith, live-is s (n .advance .ensures .0) _ (f-is (c .before .before)), next-fits s, n .advance .kept .0, s .size)
+    let s = n .before .before .before .pre .0 in
+    omega (arith, live-is s (n .advance .ensures .0) _ (f-is (c .before .before)), next-fits s, n .advance .kept .0, n .before .before .before .pre .1)
 
 same-length : tie.Need-same-length
 same-length c = search needs
@@ -41,9 +41,9 @@ returns : tie.Need-returns
 returns c =
     let n = c .before .before .before .before .before .before .before .before .before in
     let clear = c .before .before .clear-from in
-    let s = n .before .before .before .pre in
+    let s = n .before .before .before .pre .0 in
     let f = f-is (c .before .before .before .before .before) in
-    (n .advance .ensures .0, cleared s (n .advance .ensures .0) _ f _ _ (n .advance .ensures .1) (omega (arith, n .advance .kept .0, s .size)) (clear .ensures))
+    (n .advance .ensures .0, cleared s (n .advance .ensures .0) _ f _ _ (n .advance .ensures .1) (omega (arith, n .advance .kept .0, n .before .before .before .pre .1)) (clear .ensures))
 
 pub step-spec : {M : Type 1} → statement M
 step-spec =

@@ -3,8 +3,8 @@ use mathlib.Core.Path.{_≡_, _∙_}
 use Rattle.little.specs.Little.{column, filled}
 use Rattle.saved_test.specs.Form.{massSize, liveCount}
 use borrow.Author.Needs.{needs}
-use Rattle.calls.proofs.drawing.turn_at.Statement.{statement}
-use Rattle.calls.proofs.drawing.turn_at.Tie as tie
+use Rattle.calls.proofs.turns.turn_at.Statement.{statement}
+use Rattle.calls.proofs.turns.turn_at.Tie as tie
 
 live-count-requires : tie.Need-live-count-requires
 live-count-requires c κs = search needs
@@ -20,16 +20,13 @@ front-is c = c .front-in .ensures ∙ rw (c .before .before .live-count .ensures
 
 turn-front-requires : tie.Need-turn-front-requires
 turn-front-requires c κs =
-    let a = c .before .before .before .before .before .before .before .before .args in
     rw (front-is (c .before .before .before)) (c .before .before .before .before .before .before .before .before .pre .2)
 
 same-length : tie.Need-same-length
 same-length c = search needs
 
 returns : tie.Need-returns
-returns c =
-    let e = c .before .before .turn-front .ensures in
-    rw (← front-is (c .before .before .before .before .before .before)) e
+returns c = rw (← front-is (c .before .before .before .before .before .before)) (c .before .before .turn-front .ensures)
 
 pub turn-at-spec : {M : Type 1} → statement M
 turn-at-spec = tie.close (tie.spec live-count-requires front-in-requires turn-front-requires same-length returns)
