@@ -26,7 +26,7 @@ use Rattle.bucket_test.proofs.DrawingLaws.{begun-0}
 use Rattle.little.specs.Little.{toLE, putAt}
 use Rattle.stored_plan.specs.Reading.{decoded}
 use Rattle.stored_plan.specs.declared.Read.{Read}
-use Rattle.saved_test.specs.Form.{massSize, recordOffset, formSize, countsBetween, liveCount, massesTo, massBytes, savedSize, header, recordEntries, massEntries}
+use Rattle.saved_test.specs.Form.{massSize, recordOffset, formSize, formLimit, countsBetween, liveCount, massesTo, massBytes, savedSize, header, recordEntries, massEntries}
 use Rattle.saved_test.proofs.WritingLaws.{form-put}
 use Rattle.calls.specs.Calls.{answerNumber, ownWords, begunOn, drawnOn, calledBegin, calledDraw}
 use Rattle.calls.proofs.PlanRead.{plan-read}
@@ -44,7 +44,7 @@ module _ (p : Plan) (good : planRefusal p ≡ 0) where
   few : p .count ≤ countLimit
   few = accepted p .0 good .count-range .1
 
-  begun-is : begun p (ownWords p) ≡ record { answer = answerOf p startState; state = startState; words = startWords p }
+  pub begun-is : begun p (ownWords p) ≡ record { answer = answerOf p startState; state = startState; words = startWords p }
   begun-is = begun-0 p (ownWords p) good (words-say p (ownWords p) .1 (length-replicate (wide * p .count) 0))
 
   pub record-start : (i : ℕ) → i < p .count → recordAt startState i ≡ startRecord
@@ -67,6 +67,10 @@ module _ (p : Plan) (good : planRefusal p ≡ 0) where
   pub start-size : recordOffset (p .count) + massSize * p .count ≡ savedSize p startState
   unfolding formSize
   start-size = omega (arith, masses-to (p .count) (omega arith))
+
+  pub start-small : savedSize p startState ≤ formLimit
+  unfolding recordOffset
+  start-small = omega (arith, start-size, few)
 
   -- the state that code makes
   pub state-start : (s : State) (w : Walked) → s ≡ tenOf (openRecord w) → w ≡ startWalked → s ≡ startState

@@ -49,6 +49,19 @@ rule-small p s most =
     go false j (inl h) false false = rw (le?-fails (suc j) (p .buckets) (omega arith)) (omega arith)
     go false j (inr h) w e = rw (le?-complete (suc j) (p .buckets) h) (omega arith)
 
+-- .. is from 100 on
+pub rule-large : (p : Plan) (s : State) → 100 ≤ answerNumber (answerOf p s)
+rule-large p s =
+    let j = chosenBucket p (lowOf p s) (highOf p s) in
+    rw (rule-with chosenBucket p s) (go (lt? (highOf p s) (lowOf p s)) (lt? j (p .buckets)) j (anyWide p s) (eq? (s .n) (p .horizon)))
+  where
+    go : (c b : Bool) (j : ℕ) (w e : Bool) → 100 ≤ answerNumber (firstThatFits c b j w e)
+    go true b j w e = omega arith
+    go false true j w e = omega arith
+    go false false j true e = omega arith
+    go false false j false true = omega arith
+    go false false j false false = omega arith
+
 -- the answer to a state whose records stand so
 answer-seen : (p : Plan) (s : State) (records : ℕ → Threshold) → ((i : ℕ) → i < p .count → recordAt s i ≡ records i) → (st : Standing)
     → Seen (p .thresholds) (p .count) records st → (spent : Bool) → spent ≡ eq? (s .n) (p .horizon)

@@ -42,7 +42,7 @@ use Rattle.bucket_test.proofs.DrawingLaws.{ones-fit, sound-at, early, all-may-t
 use Rattle.bucket_test.proofs.OneStep.{record-next, part-next}
 use Rattle.little.specs.Little.{field, putAt}
 use Rattle.little.proofs.Putting.{put-before, put-first}
-use Rattle.saved_test.specs.Form.{headerSize, drawsField, onesField, massSize, recordOffset, formSize, countsBetween, liveBy, liveCount, massesTo, recordBytes, massBytes, savedMasses, savedSize, header, recordEntries, massEntries, savedForm}
+use Rattle.saved_test.specs.Form.{headerSize, drawsField, onesField, massSize, recordOffset, formSize, formLimit, countsBetween, liveBy, liveCount, massesTo, recordBytes, massBytes, savedMasses, savedSize, header, recordEntries, massEntries, savedForm}
 use Rattle.saved_test.specs.Reading.{recordIn, partIn, stateIn, wordsIn, formFits}
 use Rattle.saved_test.proofs.Judged.{gap-below, gap-live, masses-cong}
 use Rattle.saved_test.proofs.BytesBack.{masses-within}
@@ -50,6 +50,7 @@ use Rattle.saved_test.proofs.AlikeLaws.{gap-covers}
 use Rattle.saved_test.proofs.HeldLaws.{record-held, part-held, words-held}
 use Rattle.saved_test.proofs.Sizes.{header-length, form-length}
 use Rattle.saved_test.proofs.ReadingLaws.{part-few, form-held}
+use Rattle.calls.proofs.TurnLaws.{new-small}
 use Rattle.calls.specs.Calls.{roomRefusal, calledBy}
 use Rattle.saved_test.specs.Inner.{FormFits, HasRoom}
 use Rattle.calls.specs.Inner.{Seen, newRecord, newPart, newSize, newEntries, Turns, HasRoomToTurn, Ready, outcome, Took}
@@ -191,6 +192,11 @@ module _ (p : Plan) (bytes : List ℕ) (d : ℕ) (good : planRefusal p ≡ 0) (f
 
     size-is : newSize (p .thresholds) (p .allowances) (p .count) (p .delay) (suc (s .n)) (s .ones + d) bytes ≡ savedSize p next
     size-is = ap (formSize (p .count)) (sym (masses-cong (recordAt next) new (p .count) record-is))
+
+    -- the new form is no longer than the longest
+    pub next-small : savedSize p next ≤ formLimit
+    unfolding formSize
+    next-small = rw size-is at (new-small _ _ _ _ _ _ _ turns (p .count) (omega arith))
 
     drawn-is : outcome p bytes d [] ≡ record { answer = answerOf p next; state = next; words = nextWords p s ws d }
     drawn-is = drawn-by p s ws d 0 (refused-by true sound)
