@@ -7,24 +7,26 @@ use Prim.Native.Nat.{ℕ, zero, suc, _*_, _≤_, _<_}
 use native.Mathlib.Omega.{arith}
 use lib.ListN.{length, drop, length-replicate}
 use lib.Seq.{take-at}
-use Rattle.walk.specs.Numbers.{le?, lt?}
+use Rattle.walk.specs.Numbers.{lt?}
 use Rattle.walk.specs.Units.{wide}
 use Rattle.walk.proofs.Tests.{le?-complete, le?-fails}
 use Rattle.plan.specs.Places.{eq?, firstRefusal}
 use Rattle.plan.specs.Plan.{Accepted}
 use Rattle.plan.specs.declared.Plan.{Plan}
-use Rattle.plan.proofs.PlaceLaws.{le-or-lt, eq?-complete, eq?-fails, none-both}
+use Rattle.plan.proofs.PlaceLaws.{le-or-lt, eq?-complete, eq?-fails}
+use Rattle.plan.proofs.AcceptedLaws.{accepted}
 use Rattle.bucket_choice.specs.Choice.{chosenBucket}
 use Rattle.bucket_test.specs.Turn.{recordAt}
 use Rattle.bucket_test.specs.Answers.{lowOf, highOf, anyWide, firstThatFits, answerOf, refusalOf}
-use Rattle.bucket_test.specs.Draw.{Outcome, begun, drawRefusal, nextState, drawnBy, drawn}
+use Rattle.bucket_test.specs.Draw.{Outcome, startState, begun, drawRefusal, nextState, drawnBy, drawn}
 use Rattle.bucket_test.specs.Carried.{carriedOver, carried, hasEnded}
 use Rattle.bucket_test.specs.Demand3.{AnswersDraw, Answered}
 use Rattle.bucket_test.specs.declared.State.{State}
 use Rattle.bucket_test.specs.declared.Answer.{Answer}
 use Rattle.bucket_test.specs.declared.Answer.the-variants.{Open, Decided, Crossed, Wide, Spent, Refused}
 use Rattle.bucket_test.proofs.AnsweringLaws.{rule-with, rule-answers}
-use Rattle.bucket_test.proofs.DrawingLaws.{drawn-by}
+use Rattle.bucket_test.proofs.PartLaws.{words-say}
+use Rattle.bucket_test.proofs.DrawingLaws.{begun-0, drawn-by}
 use Rattle.bucket_test.proofs.Demand.{demand-3}
 use Rattle.little.proofs.LittleLaws.{field-left}
 use Rattle.stored_plan.specs.Reading.{decoded}
@@ -40,8 +42,8 @@ use Rattle.resumed_test.specs.EverAfter.{AlikeAfter}
 use Rattle.resumed_test.proofs.Simulation.{drawn-alike}
 use Rattle.resumed_test.proofs.Demand.{carried-sound, carried-savable}
 use Rattle.calls.specs.Calls.{answerNumber, Called, roomRefusal, calledBy, ownWords, calledBegin, calledDraw}
-use Rattle.calls.specs.Chain.{Call, kept, unless12, savedAfter, lastCalled, drawsOf, Returns, Returned, Follows, ChainTheorem}
-use Rattle.calls.proofs.PlanRead.{no-more, also, rule-small, first-small, refusal-small, plan-read}
+use Rattle.calls.specs.Chain.{Call, kept, unless12, savedAfter, lastCalled, drawsKept, Returns, Returned, Follows, ChainTheorem}
+use Rattle.calls.proofs.PlanRead.{plan-read}
 
 -- ---- the number of an answer: of the answer rule's from 100 on, of a refusal its own
 
@@ -100,36 +102,6 @@ module _ (p : Plan) (o : Outcome) (lent : List ℕ) where
   kept-refusal : (had : List ℕ) (r : ℕ) → suc r < 100 → kept had (calledBy (suc r) p o lent) ≡ had
   kept-refusal had r few = rw (le?-fails 100 (suc r) few)
 
-  -- what is answered was not refused
-  called-large : (r : ℕ) → r < 100 → 100 ≤ calledBy r p o lent .number → r ≡ 0
-  called-large zero few large = refl
-  called-large (suc r) few large = absurd (omega arith)
-
--- a beginning that is answered: the plan was read, and nothing was refused
-module _ (planBytes lent : List ℕ) (large : 100 ≤ calledBegin planBytes lent .number) where
-  abbrev begins : Outcome
-  begins = begun (decoded planBytes .plan) (ownWords (decoded planBytes .plan))
-
-  abbrev reading : ℕ
-  reading = decoded planBytes .refusal
-
-  abbrev room : ℕ
-  room = roomRefusal (decoded planBytes .plan) begins lent
-
-  none-refused : firstRefusal (reading ∷ room ∷ []) ≡ 0
-  unfolding calledBegin
-  none-refused =
-      let fits = le? (savedSize (decoded planBytes .plan) (begins .state)) (length lent) in
-      called-large (decoded planBytes .plan) begins lent (firstRefusal (reading ∷ room ∷ []))
-      (first-small _ (also (refusal-small planBytes) (rule-small fits 12 (omega arith) no-more))) large
-
-  was-read : decoded planBytes .refusal ≡ 0
-  was-read = none-both reading (room ∷ []) (λ q. q, λ q. q) (λ q. q, λ q. q) .0 none-refused .0
-
-  begin-is : calledBegin planBytes lent ≡ calledBy 0 (decoded planBytes .plan) begins lent
-  unfolding calledBegin
-  begin-is = ap (λ (r : ℕ). calledBy r (decoded planBytes .plan) begins lent) none-refused
-
 -- ---- under a plan that is read
 
 module _ (planBytes lent : List ℕ) (read : decoded planBytes .refusal ≡ 0) where
@@ -144,6 +116,13 @@ module _ (planBytes lent : List ℕ) (read : decoded planBytes .refusal ≡ 0) w
 
   own-size : length own ≡ wide * p .count
   own-size = length-replicate (wide * p .count) 0
+
+  -- a beginning where there is room
+  begin-is : savedSize p startState ≤ length lent → calledBegin planBytes lent ≡ calledBy 0 p (begun p own) lent
+  unfolding calledBegin
+  begin-is room =
+      let begins = begun-0 p own (accepted p .1 ok) (words-say p own .1 own-size) in
+      rw (read, ap (λ (o : Outcome). o .state) begins, le?-complete (savedSize p startState) (length lent) room)
 
   abbrev test : List ℕ → Outcome
   test ds = carried p own ds
@@ -188,9 +167,9 @@ module _ (planBytes lent : List ℕ) (read : decoded planBytes .refusal ≡ 0) w
 
   -- ---- one call more
 
-  module _ (c : Call) (cs : List Call) (so-far : savedAfter planBytes lent cs ≡ form (drawsOf planBytes lent cs)) where
+  module _ (c : Call) (cs : List Call) (so-far : savedAfter planBytes lent cs ≡ form (drawsKept planBytes lent cs)) where
     abbrev ds : List ℕ
-    ds = drawsOf planBytes lent cs
+    ds = drawsKept planBytes lent cs
 
     abbrev o : Outcome
     o = test (c .draw ∷ ds)
@@ -266,21 +245,22 @@ module _ (planBytes lent : List ℕ) (read : decoded planBytes .refusal ≡ 0) w
 
   module _ (begin : calledBegin planBytes lent ≡ calledBy 0 p (begun p own) lent) where
     follows-none : Follows planBytes lent []
-    unfolding savedAfter drawsOf Returned carriedOver Answered
+    unfolding savedAfter drawsKept Returned carriedOver Answered
     follows-none =
         let answer : test [] .answer ≡ Open = demand-3 p ok own own-size [] .answered in
         record {
           returned = (rw begin (ap answerNumber answer), rw (begin, form-length p (test [] .state) (test [] .words)));
           saved-is = rw begin (kept-answer p (test []) lent [] (numbers-small []) (rw answer (omega arith)));
+          demand = demand-3 p ok own own-size [];
         }
 
     follows : (cs : List Call) → Follows planBytes lent cs
-    unfolding savedAfter drawsOf Returned
+    unfolding savedAfter drawsKept Returned
     follows [] = follows-none
     follows (c ∷ cs) =
         let f = follows cs in
         let k = step c cs (f .saved-is) in
-        record { returned = (k .returns, f .returned); saved-is = k .saved-is }
+        record { returned = (k .returns, f .returned); saved-is = k .saved-is; demand = demand-3 p ok own own-size (drawsKept planBytes lent (c ∷ cs)) }
 
 pub chain-holds : ChainTheorem
-chain-holds planBytes lent large = follows planBytes lent (was-read planBytes lent large) (begin-is planBytes lent large)
+chain-holds planBytes lent read room = follows planBytes lent read (begin-is planBytes lent read room)

@@ -8,8 +8,9 @@ use lib.ListN.{length, take, drop}
 use Rattle.walk.specs.Numbers.{le?}
 use Rattle.plan.specs.Places.{eq?}
 use Rattle.bucket_test.specs.Answers.{refusalOf}
-use Rattle.bucket_test.specs.Draw.{Outcome}
+use Rattle.bucket_test.specs.Draw.{Outcome, startState}
 use Rattle.bucket_test.specs.Carried.{carried}
+use Rattle.bucket_test.specs.Demand3.{Demand3}
 use Rattle.plan.specs.declared.Plan.{Plan}
 use Rattle.little.specs.Little.{field}
 use Rattle.stored_plan.specs.Reading.{decoded}
@@ -51,9 +52,9 @@ module _ (planBytes lent : List ℕ) where
   lastCalled c cs = calledDraw planBytes (savedAfter cs) (c .draw) (c .lent)
 
   -- the draws that 12 did not refuse, and the test carried over them
-  unfoldable pub drawsOf : List Call → List ℕ
-  drawsOf [] = []
-  drawsOf (c ∷ cs) = unless12 (eq? (lastCalled c cs .number) 12) (c .draw) (drawsOf cs)
+  unfoldable pub drawsKept : List Call → List ℕ
+  drawsKept [] = []
+  drawsKept (c ∷ cs) = unless12 (eq? (lastCalled c cs .number) 12) (c .draw) (drawsKept cs)
 
   abbrev pub testAfter : List ℕ → Outcome
   testAfter ds = carried planOf (ownWords planOf) ds
@@ -77,13 +78,16 @@ module _ (planBytes lent : List ℕ) where
   Returned [] =
       (calledBegin planBytes lent .number ≡ 100)
       × (calledBegin planBytes lent .bytes ≡ formOf (testAfter []) ++ drop (length (formOf (testAfter []))) lent)
-  Returned (c ∷ cs) = Returns c cs (testAfter (c .draw ∷ drawsOf cs)) × Returned cs
+  Returned (c ∷ cs) = Returns c cs (testAfter (c .draw ∷ drawsKept cs)) × Returned cs
 
   pub record Follows (cs : List Call) : Type 0 where
     pub returned : Returned cs
     -- the saved bytes are the form of the carried test
-    pub saved-is : savedAfter cs ≡ formOf (testAfter (drawsOf cs))
+    pub saved-is : savedAfter cs ≡ formOf (testAfter (drawsKept cs))
+    -- demand 3 holds of that test
+    pub demand : Demand3 planOf (ownWords planOf) (drawsKept cs)
 
--- from a beginning that was accepted, over every list of calls
+-- of plan bytes that are read and lent bytes with room for the form of a beginning, which is then accepted, over every list of calls
 abbrev pub ChainTheorem : Type 0
-ChainTheorem = (planBytes lent : List ℕ) → 100 ≤ calledBegin planBytes lent .number → (cs : List Call) → Follows planBytes lent cs
+ChainTheorem = (planBytes lent : List ℕ) → decoded planBytes .refusal ≡ 0 → savedSize (planOf planBytes lent) startState ≤ length lent
+    → (cs : List Call) → Follows planBytes lent cs
