@@ -39,10 +39,10 @@ use Rattle.saved_test.specs.Form.{countsBetween, liveBy, markStep, savedForm}
 use Rattle.saved_test.specs.Alike.{Alike}
 use Rattle.saved_test.specs.Reading.{stateIn, wordsIn}
 use Rattle.saved_test.specs.RoundTrip.{Typed, Savable}
-use Rattle.resumed_test.specs.Saves.{Move, Draw, Save, drawsOf, Lends, reloadRefusal, reloadedBy, reloaded, moved, AnsweredOver, Recorded, lastWalk, stateNow, partNow, Demand3Saved, Demand3SavedTheorem}
+use Rattle.resumed_test.specs.Saves.{Move, Draw, Save, drawsOf, Lends, reloadRefusal, reloadedBy, reloaded, moved, AnsweredOver, SavedSince, Recorded, lastWalk, stateNow, partNow, Demand3Saved, Demand3SavedTheorem}
 use Rattle.saved_test.proofs.Judged.{save-says, gap-below, in-time, known-at}
 use Rattle.saved_test.proofs.AlikeLaws.{sound-same, alike-trans}
-use Rattle.resumed_test.proofs.Simulation.{SameParts, drawn-alike, drawn-parts}
+use Rattle.resumed_test.proofs.Simulation.{SamePart, SameParts, drawn-alike, drawn-parts}
 use Rattle.saved_test.proofs.TestBack.{alike-back, part-at, not-refused}
 
 -- a part whose words behind the live masses are zero is what a reading makes of those masses
@@ -107,7 +107,7 @@ module _ (p : Plan) (ok : Accepted p) (words : List ℕ) (size : length words �
   carried-savable = record { accepted = save-says p (c .state) (c .words) .1 (accepted p .1 ok, (carried-size, carried-sound)); typed = carried-typed }
 
   -- a test that is alike can be saved ..
-  module _ (s : State) (ws : List ℕ) (h : Alike p (c .state) (c .words) s ws) (same : SameParts p (c .state) (c .words) ws) where
+  module _ (s : State) (ws : List ℕ) (h : Alike p (c .state) (c .words) s ws) where
     savable : Savable p s ws
     savable = record {
       accepted = save-says p s ws .1 (accepted p .1 ok, (h .sizes .1, sound-same p (c .state) (c .words) s ws h ∙ carried-sound));
@@ -146,16 +146,22 @@ module _ (p : Plan) (ok : Accepted p) (words : List ℕ) (size : length words �
       settled-part (Above u) n = refl
       settled-part (AtMost u) n = refl
 
-    back-parts : SameParts p (c .state) (c .words) (wordsIn p form)
-    back-parts i l = go (recordAt (c .state) i .mark) refl (same i l)
-      where
-        settled-back : (m : Mark) → recordAt (c .state) i .mark ≡ m → ¬ (m ≡ Open)
-            → (¬ (recordAt (c .state) i .mark ≡ Open)) × (partAt i (wordsIn p form) ≡ replicate wide 0)
-        settled-back m e n = (λ q. n (sym e ∙ q), back-is i l ∙ rw e (settled-part i l m n))
+    -- `Since`, or now: every step that a mark names was taken by now
+    abbrev OrNow : (ℕ → Type 0) → ℕ → Type 0
+    OrNow Since t = (t ≤ length (taken p words ds)) ⊎ Since t
 
-        go : (m : Mark) → recordAt (c .state) i .mark ≡ m → (partAt i ws ≡ partAt i (c .words)) ⊎ ((¬ (recordAt (c .state) i .mark ≡ Open)) × (partAt i ws ≡ replicate wide 0))
-            → (partAt i (wordsIn p form) ≡ partAt i (c .words))
-            ⊎ ((¬ (recordAt (c .state) i .mark ≡ Open)) × (partAt i (wordsIn p form) ≡ replicate wide 0))
+    back-parts : (Since : ℕ → Type 0) → SameParts Since p (c .state) (c .words) ws → SameParts (OrNow Since) p (c .state) (c .words) (wordsIn p form)
+    back-parts Since same i l = go (recordAt (c .state) i .mark) refl (same i l)
+      where
+        taken-step : markStep (recordAt (c .state) i .mark) ≤ length (taken p words ds)
+        taken-step = omega (arith, demand-3 p ok words size ds .n-is, known-at p (c .state) (c .words) carried-sound i l .step-small)
+
+        settled-back : (m : Mark) → recordAt (c .state) i .mark ≡ m → ¬ (m ≡ Open)
+            → (¬ (recordAt (c .state) i .mark ≡ Open)) × OrNow Since (markStep (recordAt (c .state) i .mark)) × (partAt i (wordsIn p form) ≡ replicate wide 0)
+        settled-back m e n = (λ q. n (sym e ∙ q), inl taken-step, back-is i l ∙ rw e (settled-part i l m n))
+
+        go : (m : Mark) → recordAt (c .state) i .mark ≡ m → SamePart Since (recordAt (c .state) i .mark) (partAt i (c .words)) (partAt i ws)
+            → SamePart (OrNow Since) (recordAt (c .state) i .mark) (partAt i (c .words)) (partAt i (wordsIn p form))
         go Open e (inl q) = inl (back-is i l ∙ rw e (open-part i l e q))
         go Open e (inr q) = absurd (q .0 e)
         go (Above u) e k = inr (settled-back (Above u) e (λ q. let z : _≡_ {A = ℕ} 0 1 = cc in omega arith))
@@ -183,7 +189,7 @@ module _ (p : Plan) (ok : Accepted p) (words : List ℕ) (size : length words �
 
   pub record Together (ms : List Move) : Type 0 where
     pub alike : Alike p (c′ ms .state) (c′ ms .words) (moved p words ms .state) (moved p words ms .words)
-    pub parts : SameParts p (c′ ms .state) (c′ ms .words) (moved p words ms .words)
+    pub parts : SameParts (SavedSince p words ms) p (c′ ms .state) (c′ ms .words) (moved p words ms .words)
     pub answered : AnsweredOver p words ms
 
   -- one move more
@@ -220,7 +226,7 @@ module _ (p : Plan) (ok : Accepted p) (words : List ℕ) (size : length words �
       }
 
   together : (ms : List Move) → Lends p ms → Together ms
-  unfolding drawsOf Lends AnsweredOver Answered
+  unfolding drawsOf Lends AnsweredOver Answered SavedSince
   together [] lends =
       let z = carried-size p ok words size [] in
       record {
@@ -233,18 +239,18 @@ module _ (p : Plan) (ok : Accepted p) (words : List ℕ) (size : length words �
       let k = drawn-alike p _ _ _ _ (t .alike) d in
       record {
         alike = rw (moved-draw d ms, carried-draw d (drawsOf ms)) (k .alike);
-        parts = rw (moved-draw d ms, carried-draw d (drawsOf ms)) (drawn-parts p _ _ _ _ (t .alike) d (t .parts));
+        parts = rw (moved-draw d ms, carried-draw d (drawsOf ms)) (drawn-parts p _ _ _ _ (t .alike) d (SavedSince p words ms) (t .parts));
         answered = (answers d ms (k .answer-same), rw (moved-draw d ms, carried-draw d (drawsOf ms)) (k .answer-same), t .answered);
       }
   together (Save lent ∷ ms) lends =
       let t = together ms (lends .1) in
       let s = moved p words ms .state in
       let ws = moved p words ms .words in
-      let none = reload-none p ok words size (drawsOf ms) s ws (t .alike) (t .parts) lent (lends .0) in
+      let none = reload-none p ok words size (drawsOf ms) s ws (t .alike) lent (lends .0) in
       let z = moved-save lent ms none in
       record {
-        alike = rw z (back-alike p ok words size (drawsOf ms) s ws (t .alike) (t .parts));
-        parts = rw z (back-parts p ok words size (drawsOf ms) s ws (t .alike) (t .parts));
+        alike = rw z (back-alike p ok words size (drawsOf ms) s ws (t .alike));
+        parts = rw z (back-parts p ok words size (drawsOf ms) s ws (t .alike) (SavedSince p words ms) (t .parts));
         answered = (none, t .answered);
       }
 
@@ -260,7 +266,8 @@ module _ (p : Plan) (ok : Accepted p) (words : List ℕ) (size : length words �
         rw (t .alike .record-same i l) record { lower-is = s .lower-is; upper-is = s .upper-is; over-is = s .over-is; under-is = s .under-is }
 
     stands-now : (Stands (lastWalk p words ms i) (recordAt (stateNow p words ms) i .walked) (partNow p words ms i))
-        ⊎ ((¬ (recordAt (stateNow p words ms) i .mark ≡ Open)) × (partNow p words ms i ≡ replicate wide 0))
+        ⊎ ((¬ (recordAt (stateNow p words ms) i .mark ≡ Open)) × SavedSince p words ms (markStep (recordAt (stateNow p words ms) i .mark))
+        × (partNow p words ms i ≡ replicate wide 0))
     stands-now = rw (t .alike .record-same i l) (⊎-elim (λ e. inl (rw e (d .stands i l))) (λ e. inr e) (t .parts i l))
 
   whole : Demand3Saved p words ms

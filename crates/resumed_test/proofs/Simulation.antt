@@ -17,15 +17,17 @@ use Rattle.bucket_test.specs.declared.Threshold.{Threshold}
 use Rattle.bucket_test.specs.declared.State.{State}
 use Rattle.bucket_test.proofs.OneStep.{drawn-says, record-next, part-next, one-step-holds}
 use Rattle.bucket_test.proofs.DrawingLaws.{drawn-by}
-use Rattle.saved_test.specs.Form.{liveBy}
+use Rattle.saved_test.specs.Form.{liveBy, markStep}
 use Rattle.saved_test.specs.Alike.{liveMasses, Alike}
 use Rattle.saved_test.proofs.AlikeLaws.{row-same, answer-same, words-same, sound-same}
 use Rattle.resumed_test.specs.EverAfter.{drawnAfter, AlikeAfter, Simulation}
 
--- of an open threshold all 769 words are the same; of a settled one they are the same, or zeros
-abbrev pub SameParts : Plan → State → List ℕ → List ℕ → Type 0
-SameParts p s words words′ = (i : ℕ) → i < p .count
-    → (partAt i words′ ≡ partAt i words) ⊎ ((¬ (recordAt s i .mark ≡ Open)) × (partAt i words′ ≡ replicate wide 0))
+-- of an open threshold all 769 words are the same; of a settled one they are the same or, where `Since` holds of its step, zeros
+abbrev pub SamePart : (ℕ → Type 0) → Mark → List ℕ → List ℕ → Type 0
+SamePart Since m part part′ = (part′ ≡ part) ⊎ ((¬ (m ≡ Open)) × Since (markStep m) × (part′ ≡ replicate wide 0))
+
+abbrev pub SameParts : (ℕ → Type 0) → Plan → State → List ℕ → List ℕ → Type 0
+SameParts Since p s words words′ = (i : ℕ) → i < p .count → SamePart Since (recordAt s i .mark) (partAt i words) (partAt i words′)
 
 -- ---- one threshold
 
@@ -105,18 +107,17 @@ module _ (p : Plan) (s : State) (words : List ℕ) (s′ : State) (words′ : Li
           }
 
       -- the words of an open threshold are those of its step, whole; a settled one keeps its own
-      next-parts : SameParts p s words words′ → SameParts p (nextState p s words d) (nextWords p s words d) (nextWords p s′ words′ d)
-      next-parts same i l = go (t i l .mark) refl (same i l)
+      next-parts : (Since : ℕ → Type 0) → SameParts Since p s words words′
+          → SameParts Since p (nextState p s words d) (nextWords p s words d) (nextWords p s′ words′ d)
+      next-parts Since same i l = go (t i l .mark) refl (same i l)
         where
-          go : (m : Mark) → recordAt s i .mark ≡ m
-              → (partAt i words′ ≡ partAt i words) ⊎ ((¬ (recordAt s i .mark ≡ Open)) × (partAt i words′ ≡ replicate wide 0))
-              → (partAt i (nextWords p s′ words′ d) ≡ partAt i (nextWords p s words d))
-              ⊎ ((¬ (recordAt (nextState p s words d) i .mark ≡ Open)) × (partAt i (nextWords p s′ words′ d) ≡ replicate wide 0))
+          go : (m : Mark) → recordAt s i .mark ≡ m → SamePart Since (recordAt s i .mark) (partAt i words) (partAt i words′)
+              → SamePart Since (recordAt (nextState p s words d) i .mark) (partAt i (nextWords p s words d)) (partAt i (nextWords p s′ words′ d))
           go Open e k = inl (part-is′ i l ∙ (rw (e, row-same (t i l .walked) (partAt i words) (partAt i words′) (rw e at (h .masses-same i l)))) ∙ sym (part-is i l))
           go (Above u) e (inl q) = inl (part-is′ i l ∙ (rw (e, q)) ∙ sym (part-is i l))
-          go (Above u) e (inr q) = inr (rw (record-is i l, e) (q .0), part-is′ i l ∙ rw e (q .1))
+          go (Above u) e (inr q) = inr (rw (record-is i l, e) (q .0), rw (record-is i l, e) (q .1), part-is′ i l ∙ rw e (q .2))
           go (AtMost u) e (inl q) = inl (part-is′ i l ∙ (rw (e, q)) ∙ sym (part-is i l))
-          go (AtMost u) e (inr q) = inr (rw (record-is i l, e) (q .0), part-is′ i l ∙ rw e (q .1))
+          go (AtMost u) e (inr q) = inr (rw (record-is i l, e) (q .0), rw (record-is i l, e) (q .1), part-is′ i l ∙ rw e (q .2))
 
 -- ---- a draw of any value, and lists of draws
 
@@ -129,15 +130,15 @@ module _ (p : Plan) (s : State) (words : List ℕ) (s′ : State) (words′ : Li
       go zero e = let k = next-alike p s words s′ words′ h d e in record { answer-same = answer-same p _ _ _ _ k; alike = k }
       go (suc r) e = record { answer-same = refl; alike = h }
 
-  abbrev Parts : Outcome → Outcome → Type 0
-  Parts o o′ = SameParts p (o .state) (o .words) (o′ .words)
+  abbrev Parts : (ℕ → Type 0) → Outcome → Outcome → Type 0
+  Parts Since o o′ = SameParts Since p (o .state) (o .words) (o′ .words)
 
-  pub drawn-parts : SameParts p s words words′ → Parts (drawn p s words d) (drawn p s′ words′ d)
-  drawn-parts same =
+  pub drawn-parts : (Since : ℕ → Type 0) → SameParts Since p s words words′ → Parts Since (drawn p s words d) (drawn p s′ words′ d)
+  drawn-parts Since same =
       rw (drawn-by p s words d _ refl, drawn-by p s′ words′ d _ (refusal-same p s words s′ words′ h d)) (go (drawRefusal p s words d) refl)
     where
-      go : (r : ℕ) → drawRefusal p s words d ≡ r → Parts (drawnBy chosenBucket r p s words d) (drawnBy chosenBucket r p s′ words′ d)
-      go zero e = next-parts p s words s′ words′ h d e same
+      go : (r : ℕ) → drawRefusal p s words d ≡ r → Parts Since (drawnBy chosenBucket r p s words d) (drawnBy chosenBucket r p s′ words′ d)
+      go zero e = next-parts p s words s′ words′ h d e Since same
       go (suc r) e = same
 
 pub simulation : Simulation

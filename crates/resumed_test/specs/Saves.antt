@@ -2,7 +2,7 @@
 use mathlib.Core.Path.{_≡_}
 use mathlib.Core.List.{List, [], _∷_}
 use mathlib.Core.Logic.{_⊎_}
-use Prim.Native.Nat.{ℕ, zero, suc, _*_, _<_}
+use Prim.Native.Nat.{ℕ, zero, suc, _*_, _≤_, _<_}
 use lib.ListN.{length, replicate}
 use Rattle.walk.specs.Units.{wide}
 use Rattle.walk.specs.Walk.{Walk, lower, walk}
@@ -20,7 +20,7 @@ use Rattle.bucket_test.specs.Demand3.{Marks, AnswersDraw, Demand3}
 use Rattle.plan.specs.declared.Plan.{Plan}
 use Rattle.bucket_test.specs.declared.State.{State}
 use Rattle.bucket_test.specs.declared.Answer.the-variants.{Open as OpenAnswer, Refused}
-use Rattle.saved_test.specs.Form.{savedForm}
+use Rattle.saved_test.specs.Form.{markStep, savedForm}
 use Rattle.saved_test.specs.Alike.{Alike}
 use Rattle.saved_test.specs.Writing.{saveRefusal}
 use Rattle.saved_test.specs.Reading.{stateIn, wordsIn, readRefusal}
@@ -75,6 +75,12 @@ module _ (p : Plan) (words : List ℕ) where
       × AnsweredOver ms
   AnsweredOver (Save lent ∷ ms) = (reloadRefusal p (moved p words ms .state) (moved p words ms .words) lent ≡ 0) × AnsweredOver ms
 
+  -- there was a save since step t: one before which at least t draws were taken
+  unfoldable pub SavedSince : List Move → ℕ → Type 0
+  SavedSince [] t = ⊥
+  SavedSince (Draw d ∷ ms) t = SavedSince ms t
+  SavedSince (Save lent ∷ ms) t = (t ≤ length (taken p words (drawsOf ms))) ⊎ SavedSince ms t
+
   -- the record r holds the boundaries and spent masses of the walk w
   pub record Recorded (w : Walk) (r : Walked) : Type 0 where
     pub lower-is : r .lower ≡ lower w
@@ -107,10 +113,10 @@ module _ (p : Plan) (words : List ℕ) where
       pub ones-is : stateNow .ones ≡ ones drawsTaken
       pub marks : (i : ℕ) → i < p .count → Marks (thresholdAt p i) (spendingOf p i) drawsTaken (recordAt stateNow i .mark)
       pub recorded : (i : ℕ) → i < p .count → Recorded (lastWalk i) (recordAt stateNow i .walked)
-      -- all 769 words of an open threshold are those of its last step; of a settled one so, or zeros after a save
+      -- all 769 words of an open threshold are those of its last step; of a settled one so or, after a save since then, zeros
       pub stands : (i : ℕ) → i < p .count
           → Stands (lastWalk i) (recordAt stateNow i .walked) (partNow i)
-          ⊎ ((¬ (recordAt stateNow i .mark ≡ Open)) × (partNow i ≡ replicate wide 0))
+          ⊎ ((¬ (recordAt stateNow i .mark ≡ Open)) × SavedSince ms (markStep (recordAt stateNow i .mark)) × (partNow i ≡ replicate wide 0))
       -- the test that was never saved is alike
       pub same-test : Alike p (carried p words (drawsOf ms) .state) (carried p words (drawsOf ms) .words) stateNow (moved p words ms .words)
 
