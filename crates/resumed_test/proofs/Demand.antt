@@ -2,12 +2,12 @@
 use mathlib.Core.Path.{_≡_, refl, sym, ap, _∙_}
 use mathlib.Core.Bool.{true}
 use mathlib.Core.Logic.{_⊎_, inl, inr, ⊎-elim}
-use mathlib.Core.List.{List, [], _∷_}
+use mathlib.Core.List.{List, [], _∷_, _++_}
 use Prim.Native.Nat.{ℕ, zero, suc, _*_, _-_, _≤_, _<_}
 use native.Mathlib.Omega.{arith}
 use lib.IntN.{ℤ}
-use lib.ListN.{length, getD, replicate}
-use lib.Seq.{ext-getD}
+use lib.ListN.{length, drop, getD, replicate}
+use lib.Seq.{ext-getD, take-at}
 use Rattle.walk.specs.Units.{wide, M, horizonLimit}
 use Rattle.walk.specs.Walk.{lower, walk, firstAt, upperAt}
 use Rattle.walk.specs.Strings.{Upper, Lower, lastStep}
@@ -24,6 +24,7 @@ use Rattle.bucket_test.specs.Carried.{carriedOver, carried, hasEnded, taken}
 use Rattle.bucket_test.specs.Demand3.{AnswersDraw, Answered, Demand3}
 use Rattle.plan.specs.declared.Plan.{Plan}
 use Rattle.bucket_test.specs.declared.State.{State}
+use Rattle.walk.proofs.Tests.{le?-complete}
 use Rattle.walk.proofs.Signed.{below-fits}
 use Rattle.walk.proofs.Agreement.{in-order}
 use Rattle.plan.proofs.AcceptedLaws.{accepted, threshold-ok, spends}
@@ -35,12 +36,15 @@ use Rattle.plan.proofs.PlaceLaws.{le-or-lt}
 use Rattle.bucket_test.proofs.PartLaws.{words-say}
 use Rattle.little.specs.Little.{filled}
 use Rattle.little.proofs.FilledLaws.{filled-length, filled-get, filled-past}
-use Rattle.saved_test.specs.Form.{countsBetween, liveBy, markStep, savedForm}
+use Rattle.saved_test.specs.Form.{formLimit, countsBetween, liveBy, markStep, savedSize, savedForm}
 use Rattle.saved_test.specs.Alike.{Alike}
-use Rattle.saved_test.specs.Reading.{stateIn, wordsIn}
+use Rattle.saved_test.specs.Writing.{writeRefusal, saved, bytesAfter}
+use Rattle.saved_test.specs.Reading.{stateIn, wordsIn, loaded, wordsAfter}
+use Rattle.saved_test.specs.declared.Loaded.{Loaded}
 use Rattle.saved_test.specs.RoundTrip.{Typed, Savable}
-use Rattle.resumed_test.specs.Saves.{Move, Draw, Save, drawsOf, Lends, reloadRefusal, reloadedBy, reloaded, moved, AnsweredOver, SavedSince, Recorded, lastWalk, stateNow, partNow, Demand3Saved, Demand3SavedTheorem}
-use Rattle.saved_test.proofs.Judged.{save-says, gap-below, in-time, known-at}
+use Rattle.resumed_test.specs.Saves.{Move, Draw, Save, drawsOf, Lends, keptBytes, reading, reloadRefusal, reloaded, moved, AnsweredOver, SavedSince, Recorded, lastWalk, stateNow, partNow, Demand3Saved, Demand3SavedTheorem}
+use Rattle.saved_test.proofs.Sizes.{form-length}
+use Rattle.saved_test.proofs.Judged.{save-says, gap-below, in-time, known-at, size-limit}
 use Rattle.saved_test.proofs.AlikeLaws.{sound-same, alike-trans}
 use Rattle.resumed_test.proofs.Simulation.{SamePart, SameParts, drawn-alike, drawn-parts}
 use Rattle.saved_test.proofs.TestBack.{alike-back, part-at, not-refused}
@@ -167,10 +171,27 @@ module _ (p : Plan) (ok : Accepted p) (words : List ℕ) (size : length words �
         go (Above u) e k = inr (settled-back (Above u) e (λ q. let z : _≡_ {A = ℕ} 0 1 = cc in omega arith))
         go (AtMost u) e k = inr (settled-back (AtMost u) e (λ q. let z : _≡_ {A = ℕ} 0 1 = cc in omega arith))
 
-    -- the save is not refused
-    reload-none : (lent : List ℕ) → length lent ≡ wide * p .count → reloadRefusal p s ws lent ≡ 0
-    unfolding reloadRefusal
-    reload-none lent fits = rw (savable .accepted, not-refused p s ws savable lent fits)
+    -- the save is not refused: the form is written and kept, and what it holds is read
+    module _ (bytes lent : List ℕ) (room : formLimit ≤ length bytes) (fits : length lent ≡ wide * p .count) where
+      written : (saved p s ws bytes ≡ record { refusal = 0; size = savedSize p s }) × (bytesAfter p s ws bytes ≡ form ++ drop (savedSize p s) bytes)
+      unfolding saved bytesAfter writeRefusal
+      written =
+          rw (savable .accepted, le?-complete (savedSize p s) (length bytes) (omega (arith, size-limit p s ws (savable .accepted)))) (refl, refl)
+
+      kept-is : keptBytes p s ws bytes lent ≡ form
+      kept-is = rw (written .0, written .1) (take-at form (drop (savedSize p s) bytes) (savedSize p s) (form-length p s ws))
+
+      read-is : (reading p s ws bytes lent ≡ record { refusal = 0; state = stateIn p form }) × (wordsAfter p (keptBytes p s ws bytes lent) lent ≡ wordsIn p form)
+      unfolding loaded wordsAfter
+      read-is = rw (kept-is, not-refused p s ws savable lent fits) (refl, refl)
+
+      reload-none : reloadRefusal p s ws bytes lent ≡ 0
+      unfolding reloadRefusal
+      reload-none = rw (read-is .0, written .0)
+
+      reloaded-is : (reloaded p s ws bytes lent .state ≡ stateIn p form) × (reloaded p s ws bytes lent .words ≡ wordsIn p form)
+      unfolding reloaded
+      reloaded-is = (ap (λ (k : Loaded). k .state) (read-is .0), read-is .1)
 
 -- ---- every list of draws and saves
 
@@ -205,10 +226,10 @@ module _ (p : Plan) (ok : Accepted p) (words : List ℕ) (size : length words �
   unfolding moved
   moved-draw d ms = refl
 
-  moved-save : (lent : List ℕ) (ms : List Move) → reloadRefusal p (moved p words ms .state) (moved p words ms .words) lent ≡ 0
-      → moved p words (Save lent ∷ ms) ≡ reloadedBy p (moved p words ms .state) (moved p words ms .words) lent 0
-  unfolding moved reloaded
-  moved-save lent ms z = rw z
+  moved-save : (bytes lent : List ℕ) (ms : List Move)
+      → moved p words (Save bytes lent ∷ ms) ≡ reloaded p (moved p words ms .state) (moved p words ms .words) bytes lent
+  unfolding moved
+  moved-save bytes lent ms = refl
 
   -- a draw is answered as demand 3 says, where it is answered as the carried test
   answers : (d : ℕ) (ms : List Move)
@@ -242,16 +263,15 @@ module _ (p : Plan) (ok : Accepted p) (words : List ℕ) (size : length words �
         parts = rw (moved-draw d ms, carried-draw d (drawsOf ms)) (drawn-parts p _ _ _ _ (t .alike) d (SavedSince p words ms) (t .parts));
         answered = (answers d ms (k .answer-same), rw (moved-draw d ms, carried-draw d (drawsOf ms)) (k .answer-same), t .answered);
       }
-  together (Save lent ∷ ms) lends =
-      let t = together ms (lends .1) in
+  together (Save bytes lent ∷ ms) lends =
+      let t = together ms (lends .2) in
       let s = moved p words ms .state in
       let ws = moved p words ms .words in
-      let none = reload-none p ok words size (drawsOf ms) s ws (t .alike) lent (lends .0) in
-      let z = moved-save lent ms none in
+      let z = reloaded-is p ok words size (drawsOf ms) s ws (t .alike) bytes lent (lends .0) (lends .1) in
       record {
-        alike = rw z (back-alike p ok words size (drawsOf ms) s ws (t .alike));
-        parts = rw z (back-parts p ok words size (drawsOf ms) s ws (t .alike) (SavedSince p words ms) (t .parts));
-        answered = (none, t .answered);
+        alike = rw (moved-save bytes lent ms, z .0, z .1) (back-alike p ok words size (drawsOf ms) s ws (t .alike));
+        parts = rw (moved-save bytes lent ms, z .1) (back-parts p ok words size (drawsOf ms) s ws (t .alike) (SavedSince p words ms) (t .parts));
+        answered = (reload-none p ok words size (drawsOf ms) s ws (t .alike) bytes lent (lends .0) (lends .1), t .answered);
       }
 
 -- what demand 3 says of the carried test, of the test at hand

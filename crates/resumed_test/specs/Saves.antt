@@ -3,7 +3,7 @@ use mathlib.Core.Path.{_≡_}
 use mathlib.Core.List.{List, [], _∷_}
 use mathlib.Core.Logic.{_⊎_}
 use Prim.Native.Nat.{ℕ, zero, suc, _*_, _≤_, _<_}
-use lib.ListN.{length, replicate}
+use lib.ListN.{length, take, replicate}
 use Rattle.walk.specs.Units.{wide}
 use Rattle.walk.specs.Walk.{Walk, lower, walk}
 use Rattle.walk.specs.Strings.{Draws, ones, lastStep}
@@ -14,54 +14,61 @@ use Rattle.plan.specs.Plan.{thresholdAt, spendingOf, Accepted}
 use Rattle.bucket_test.specs.Words.{partAt, Stands}
 use Rattle.bucket_test.specs.Turn.{recordAt}
 use Rattle.bucket_test.specs.Answers.{answerOf, refusalOf}
-use Rattle.bucket_test.specs.Draw.{Outcome, begun, drawn, noState}
+use Rattle.bucket_test.specs.Draw.{Outcome, begun, drawn}
 use Rattle.bucket_test.specs.Carried.{carried, hasEnded, taken}
 use Rattle.bucket_test.specs.Demand3.{Marks, AnswersDraw, Demand3}
 use Rattle.plan.specs.declared.Plan.{Plan}
 use Rattle.bucket_test.specs.declared.State.{State}
+use Rattle.bucket_test.specs.declared.Answer.{Answer}
 use Rattle.bucket_test.specs.declared.Answer.the-variants.{Open as OpenAnswer, Refused}
-use Rattle.saved_test.specs.Form.{markStep, savedForm}
+use Rattle.saved_test.specs.Form.{formLimit, markStep}
 use Rattle.saved_test.specs.Alike.{Alike}
-use Rattle.saved_test.specs.Writing.{saveRefusal}
-use Rattle.saved_test.specs.Reading.{stateIn, wordsIn, readRefusal}
+use Rattle.saved_test.specs.Writing.{saved, bytesAfter}
+use Rattle.saved_test.specs.Reading.{loaded, wordsAfter}
+use Rattle.saved_test.specs.declared.Loaded.{Loaded}
 
--- a draw of any value, or a save: the test is written, its state and words are lost, and it is read into these lent words
+-- a draw of any value, or a save: the test is written into these lent bytes, its state and words are lost, and it is read into these lent words
 pub data Move : Type 0 where
   Draw : ℕ → Move
-  Save : List ℕ → Move
+  Save : List ℕ → List ℕ → Move
 
 -- the draws alone
 unfoldable pub drawsOf : List Move → List ℕ
 drawsOf [] = []
 drawsOf (Draw d ∷ ms) = d ∷ drawsOf ms
-drawsOf (Save lent ∷ ms) = drawsOf ms
+drawsOf (Save bytes lent ∷ ms) = drawsOf ms
 
--- each save lends the right number of words
+-- each save lends room for the longest form, and the right number of words
 unfoldable pub Lends : Plan → List Move → Type 0
 Lends p [] = Unit
 Lends p (Draw d ∷ ms) = Lends p ms
-Lends p (Save lent ∷ ms) = (length lent ≡ wide * p .count) × Lends p ms
+Lends p (Save bytes lent ∷ ms) = (formLimit ≤ length bytes) × (length lent ≡ wide * p .count) × Lends p ms
 
--- a save's outcome: by the first refusal, of the writing or the reading; a refused one has lost the test
-module _ (p : Plan) (s : State) (words lent : List ℕ) where
+-- a save, by what the entries hand back
+module _ (p : Plan) (s : State) (words bytes lent : List ℕ) where
+  -- the bytes that are kept, as many as the writing says; what is read from them
+  abbrev pub keptBytes : List ℕ
+  keptBytes = take (saved p s words bytes .size) (bytesAfter p s words bytes)
+
+  abbrev pub reading : Loaded
+  reading = loaded p keptBytes lent
+
+  -- the first refusal, of the writing or the reading. After a refused writing, as by 12, no byte is kept, so the reading is refused too, and the
+  -- test is lost
   unfoldable pub reloadRefusal : ℕ
-  reloadRefusal = firstRefusal (saveRefusal p s words ∷ readRefusal p (savedForm p s words) lent ∷ [])
+  reloadRefusal = firstRefusal (saved p s words bytes .refusal ∷ reading .refusal ∷ [])
 
-  abbrev pub reloadedBy : ℕ → Outcome
-  reloadedBy zero = record {
-    answer = answerOf p (stateIn p (savedForm p s words));
-    state = stateIn p (savedForm p s words);
-    words = wordsIn p (savedForm p s words);
-  }
-  reloadedBy (suc r) = record { answer = Refused (suc r); state = noState; words = lent }
+  abbrev pub reloadAnswer : ℕ → Answer
+  reloadAnswer zero = answerOf p (reading .state)
+  reloadAnswer (suc r) = Refused (suc r)
 
   unfoldable pub reloaded : Outcome
-  reloaded = reloadedBy reloadRefusal
+  reloaded = record { answer = reloadAnswer reloadRefusal; state = reading .state; words = wordsAfter p keptBytes lent }
 
 unfoldable pub moved : Plan → List ℕ → List Move → Outcome
 moved p words [] = begun p words
 moved p words (Draw d ∷ ms) = drawn p (moved p words ms .state) (moved p words ms .words) d
-moved p words (Save lent ∷ ms) = reloaded p (moved p words ms .state) (moved p words ms .words) lent
+moved p words (Save bytes lent ∷ ms) = reloaded p (moved p words ms .state) (moved p words ms .words) bytes lent
 
 -- ---- demand 3 over power cuts
 
@@ -73,13 +80,13 @@ module _ (p : Plan) (words : List ℕ) where
       AnswersDraw p d (hasEnded p words (drawsOf ms)) (moved p words (Draw d ∷ ms))
       × (moved p words (Draw d ∷ ms) .answer ≡ carried p words (d ∷ drawsOf ms) .answer)
       × AnsweredOver ms
-  AnsweredOver (Save lent ∷ ms) = (reloadRefusal p (moved p words ms .state) (moved p words ms .words) lent ≡ 0) × AnsweredOver ms
+  AnsweredOver (Save bytes lent ∷ ms) = (reloadRefusal p (moved p words ms .state) (moved p words ms .words) bytes lent ≡ 0) × AnsweredOver ms
 
   -- there was a save since step t: one before which at least t draws were taken
   unfoldable pub SavedSince : List Move → ℕ → Type 0
   SavedSince [] t = ⊥
   SavedSince (Draw d ∷ ms) t = SavedSince ms t
-  SavedSince (Save lent ∷ ms) t = (t ≤ length (taken p words (drawsOf ms))) ⊎ SavedSince ms t
+  SavedSince (Save bytes lent ∷ ms) t = (t ≤ length (taken p words (drawsOf ms))) ⊎ SavedSince ms t
 
   -- the record r holds the boundaries and spent masses of the walk w
   pub record Recorded (w : Walk) (r : Walked) : Type 0 where
@@ -120,7 +127,7 @@ module _ (p : Plan) (words : List ℕ) where
       -- the test that was never saved is alike
       pub same-test : Alike p (carried p words (drawsOf ms) .state) (carried p words (drawsOf ms) .words) stateNow (moved p words ms .words)
 
--- of every accepted plan, all lent words of the right number, and every list of draws and saves
+-- of every accepted plan, all lent words of the right number, and every list of draws and of saves that lend enough
 abbrev pub Demand3SavedTheorem : Type 0
 Demand3SavedTheorem = (p : Plan) → Accepted p → (words : List ℕ) → length words ≡ wide * p .count
     → (ms : List Move) → Lends p ms → Demand3Saved p words ms
