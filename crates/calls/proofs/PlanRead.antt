@@ -6,7 +6,6 @@ use native.Mathlib.Omega.{arith}
 use lib.ListN.{length}
 use Rattle.walk.specs.Numbers.{le?}
 use Rattle.plan.specs.Plan.{planRefusal, Accepted}
-use Rattle.plan.specs.declared.Plan.{Plan}
 use Rattle.plan.proofs.PlaceLaws.{le-reads, first-one, none-both, none-says}
 use Rattle.plan.proofs.AcceptedLaws.{accepted}
 use Rattle.stored_plan.specs.Form.{headerSize}
