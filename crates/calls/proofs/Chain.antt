@@ -43,21 +43,10 @@ use Rattle.resumed_test.proofs.Simulation.{drawn-alike}
 use Rattle.resumed_test.proofs.Demand.{carried-sound, carried-savable}
 use Rattle.calls.specs.Calls.{answerNumber, Called, roomRefusal, calledBy, ownWords, calledBegin, calledDraw}
 use Rattle.calls.specs.Chain.{Call, kept, unless12, savedAfter, lastCalled, drawsKept, Returns, Returned, Follows, ChainTheorem}
+use Rattle.calls.proofs.CallLaws.{rule-large}
 use Rattle.calls.proofs.PlanRead.{plan-read}
 
--- ---- the number of an answer: of the answer rule's from 100 on, of a refusal its own
-
-rule-large : (p : Plan) (s : State) → 100 ≤ answerNumber (answerOf p s)
-rule-large p s =
-    let j = chosenBucket p (lowOf p s) (highOf p s) in
-    rw (rule-with chosenBucket p s) (go (lt? (highOf p s) (lowOf p s)) (lt? j (p .buckets)) j (anyWide p s) (eq? (s .n) (p .horizon)))
-  where
-    go : (c b : Bool) (j : ℕ) (w e : Bool) → 100 ≤ answerNumber (firstThatFits c b j w e)
-    go true b j w e = omega arith
-    go false true j w e = omega arith
-    go false false j true e = omega arith
-    go false false j false true = omega arith
-    go false false j false false = omega arith
+-- ---- the number of a refused answer is that of the refusal
 
 refusal-number : (a : Answer) (r : ℕ) → refusalOf a ≡ suc r → answerNumber a ≡ suc r
 refusal-number Open r e = absurd (omega arith)
