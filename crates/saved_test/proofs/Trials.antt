@@ -1,4 +1,4 @@
--- Plan F's saved forms are those of docs/SAVED.md, in one statement.
+-- The saved forms of the trials have the layout of docs/SAVED.md, in one statement.
 use mathlib.Core.Path.{refl}
 use Rattle.walk.specs.Numbers.{le?, searchUp, eqZ?}
 use Rattle.walk.specs.Units.{M, wide, million, massLimit, allowanceLimit, horizonLimit}
@@ -19,8 +19,8 @@ use Rattle.bucket_test.specs.Draw.{startState, startWords, beginRefusal, begunO
 use Rattle.bucket_test.specs.Carried.{carriedOver}
 use Rattle.little.specs.Little.{toLE, fromLE, field, filled}
 use Rattle.saved_test.specs.Form.{recordOffset, formSize, countsBetween, massesTo, recordBytes, massBytes, header, recordEntries, massEntries, savedForm}
-use Rattle.saved_test.specs.Reading.{recordFrom, stateIn, recordFits, headerFits, formFits}
-use Rattle.saved_test.specs.Trials.{begunBytes, oneBytes, endedBytes, TrialsTheorem}
+use Rattle.saved_test.specs.Reading.{recordFrom, massOffset, partIn, stateIn, wordsIn, recordFits, headerFits, formFits}
+use Rattle.saved_test.specs.Trials.{planOfTwo, begunBytes, oneBytes, zeroBytes, endedBytes, bothBytes, atMostBytes, aboveBytes, TrialsTheorem}
 
 pub trials : TrialsTheorem
 unfolding M wide million massLimit allowanceLimit horizonLimit le? searchUp eqZ? spending rounds roundUp reaching massUp below wide? startRow cellsBy kept dropped cut
@@ -28,6 +28,14 @@ unfolding M wide million massLimit allowanceLimit horizonLimit le? searchUp eqZ?
     joinTo countsFit spendingOf rule1 aboveBefore rule2 rule3 rule4 permitted bucketFits rule5 coveredAbove rule6 planRefusal planF contains
     narrower narrowest chosenBucket partAt wordsFit startRecord marked walkedOn lowOf highOf anyWide answerBy answerOver startState startWords
     beginRefusal begunOver stateSound nextState nextWords drawRefusalOver drawnOver carriedOver toLE fromLE field filled recordOffset
-    formSize countsBetween massesTo recordBytes massBytes header recordEntries massEntries savedForm recordFrom stateIn recordFits headerFits
-    formFits begunBytes oneBytes endedBytes
-trials = (refl, refl, refl, refl, refl, refl, refl, refl, refl)
+    formSize countsBetween massesTo recordBytes massBytes header recordEntries massEntries savedForm recordFrom massOffset partIn stateIn wordsIn recordFits
+    headerFits formFits planOfTwo begunBytes oneBytes zeroBytes endedBytes bothBytes atMostBytes aboveBytes
+trials = (
+  (refl, refl, refl, refl),
+  (refl, refl, refl, refl),
+  (refl, refl, refl, refl),
+  (refl, refl, refl, refl),
+  (refl, refl, refl, refl),
+  (refl, refl, refl, refl),
+  (refl, refl, refl, refl),
+)
