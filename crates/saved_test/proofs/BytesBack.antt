@@ -1,8 +1,7 @@
 -- Accepted bytes hold a test that a writing accepts, and are its form (specs/RoundTrip: BytesBack).
 use mathlib.Core.Path.{_≡_, refl, sym, ap, _∙_}
-use mathlib.Core.Bool.{Bool, true}
 use mathlib.Core.List.{List, [], _∷_, _++_}
-use mathlib.Core.Logic.{_↔_, _⊎_, ⊎-elim}
+use mathlib.Core.Logic.{_⊎_, ⊎-elim}
 use Prim.Native.Nat.{ℕ, zero, suc, _+_, _*_, _^_, _≤_, _<_}
 use native.Mathlib.Nat.{mul-zero, mul-suc, pow-suc, eq-or-lt-of-le}
 use native.Mathlib.Omega.{arith}
@@ -12,27 +11,23 @@ use mir.Syntax.{w32}
 use mir.Val.{toZ, ofZ}
 use mir.ValLaws.{toZ-fits, ofZ-toZ}
 use Rattle.walk.specs.Units.{wide}
-use Rattle.walk.specs.declared.Mark.{Mark}
-use Rattle.walk.specs.declared.Mark.the-variants.{Open, Above, AtMost}
-use Rattle.walk.specs.declared.Walked.{Walked}
-use Rattle.plan.specs.Places.{unless, joinTo}
-use Rattle.plan.specs.Plan.{planRefusal, Accepted}
-use Rattle.bucket_test.specs.Words.{partAt, wordsFit}
+use Rattle.plan.specs.Places.{joinTo}
+use Rattle.plan.specs.Plan.{Accepted}
+use Rattle.bucket_test.specs.Words.{partAt}
 use Rattle.bucket_test.specs.Turn.{recordAt}
-use Rattle.bucket_test.specs.Draw.{stateSound}
 use Rattle.plan.specs.declared.Plan.{Plan}
 use Rattle.bucket_test.specs.declared.Threshold.{Threshold}
-use Rattle.plan.proofs.PlaceLaws.{both, either, eq-reads, all-say, within-reads, none-both, none-says, last-says}
 use Rattle.plan.proofs.PlaceLists.{join-cong}
-use Rattle.bucket_test.proofs.PartLaws.{words-say}
 use Rattle.plan.proofs.AcceptedLaws.{accepted}
 use Rattle.little.specs.Little.{toLE, fromLE, field, column, Bytes}
 use Rattle.little.specs.Little.{filled}
 use Rattle.little.proofs.LittleLaws.{to-field}
 use Rattle.little.proofs.FilledLaws.{filled-get}
-use Rattle.saved_test.specs.Form.{headerSize, recordSize, massSize, recordOffset, formSize, countsBetween, liveBy, liveCount, massesTo, markCode, markStep, recordBytes, massBytes, savedMasses, header, recordEntries, massEntries, savedForm}
-use Rattle.saved_test.specs.Reading.{markOf, markKnown, countFits, recordFrom, recordIn, recordFits, massOffset, partIn, stateIn, wordsIn, massesIn, headerFits, formFits, readRefusal}
+use Rattle.saved_test.specs.Form.{headerSize, recordSize, massSize, recordOffset, formSize, liveBy, liveCount, massesTo, markCode, markStep, recordBytes, massBytes, savedMasses, header, recordEntries, massEntries, savedForm}
+use Rattle.saved_test.specs.Reading.{markOf, recordFrom, recordIn, massOffset, partIn, stateIn, wordsIn, massesIn}
+use Rattle.saved_test.specs.Refusals.{codeIn, stepIn, betweenIn, FittingRecord, Fitting}
 use Rattle.saved_test.specs.RoundTrip.{Typed, BytesBack}
+use Rattle.saved_test.proofs.Refusals.{form-says, read-refusal}
 use Rattle.saved_test.proofs.Judged.{save-says, masses-cong}
 use Rattle.saved_test.proofs.HeldLaws.{record-held, part-held, words-held}
 
@@ -50,10 +45,8 @@ field-small bytes h width at = from-small width (drop at bytes) (λ i. rw (getD-
 
 -- ---- marks
 
-mark-known : (c s : ℕ) → markKnown c s ≡ true → (markCode (markOf c s) ≡ c) × (markStep (markOf c s) ≡ s)
-mark-known c s h =
-    ⊎-elim (λ q. rw (q .0, q .1) (refl, refl)) (⊎-elim (λ q. rw q (refl, refl)) (λ q. rw q (refl, refl)))
-    (either (both (eq-reads c 0) (eq-reads s 0)) (either (eq-reads c 1) (eq-reads c 2)) .0 h)
+mark-back : (c s : ℕ) → ((c ≡ 0) × (s ≡ 0)) ⊎ ((c ≡ 1) ⊎ (c ≡ 2)) → (markCode (markOf c s) ≡ c) × (markStep (markOf c s) ≡ s)
+mark-back c s = ⊎-elim (λ q. rw (q .0, q .1) (refl, refl)) (⊎-elim (λ q. rw q (refl, refl)) (λ q. rw q (refl, refl)))
 
 -- ---- so many bytes from an offset on
 
@@ -104,11 +97,12 @@ module _ (bytes : List ℕ) where
       under-fits = field-small bytes each 8 (at + 24);
     }
 
-    record-part : (at : ℕ) → markKnown (field 4 at bytes) (field 4 (at + 4) bytes) ≡ true → at + recordSize ≤ length bytes
-        → recordBytes (recordFrom bytes at) ≡ part at recordSize
+    record-part : (i : ℕ) → FittingRecord bytes i → recordOffset i + recordSize ≤ length bytes
+        → recordBytes (recordIn bytes i) ≡ part (recordOffset i) recordSize
     unfolding recordBytes recordFrom
-    record-part at known fits =
-        let k = mark-known (field 4 at bytes) (field 4 (at + 4) bytes) known in
+    record-part i f fits =
+        let at = recordOffset i in
+        let k = mark-back (codeIn bytes i) (stepIn bytes i) (f .mark-known) in
         rw (
           k .0,
           k .1,
@@ -134,49 +128,16 @@ module _ (bytes : List ℕ) where
         (λ j l. rw (filled-get wide count (column massSize at massSize bytes) few j l) (field-part massSize (at + massSize * j) (omega arith)))
         ∙ parts-join at massSize count
 
--- ---- what the judgement of a form says
+-- ---- how many masses
 
-pub record Fitting (p : Plan) (bytes : List ℕ) : Type 0 where
-  pub sized : length bytes ≡ formSize (p .count) (massesIn p bytes)
-  pub count : field 2 0 bytes ≡ p .count
-  pub masses : field 2 2 bytes ≡ massesIn p bytes
-  pub first : field 2 4 bytes ≡ headerSize
-  pub second : field 2 6 bytes ≡ recordOffset (p .count)
-  pub size : field 4 8 bytes ≡ formSize (p .count) (massesIn p bytes)
-  pub record-size : field 2 20 bytes ≡ recordSize
-  pub mass-size : field 2 22 bytes ≡ massSize
-  pub marks : (i : ℕ) → i < p .count → (markKnown (field 4 (recordOffset i) bytes) (field 4 (recordOffset i + 4) bytes) ≡ true)
-      × (countFits (recordIn bytes i .mark) (recordIn bytes i .walked) ≡ true)
-
-pub fitting : (p : Plan) (bytes : List ℕ) → formFits p bytes ≡ true → Fitting p bytes
-unfolding formFits headerFits recordFits
-fitting p bytes h =
-    let masses = massesIn p bytes in
-    let heads =
-    both (eq-reads (field 2 0 bytes) (p .count)) (both (eq-reads (field 2 2 bytes) masses) (both (eq-reads (field 2 4 bytes) headerSize)
-    (both (eq-reads (field 2 6 bytes) (recordOffset (p .count))) (both (eq-reads (field 4 8 bytes) (formSize (p .count) masses))
-    (both (eq-reads (field 2 20 bytes) recordSize) (eq-reads (field 2 22 bytes) massSize)))))) in
-    let each = all-say (recordFits bytes) (λ i. both (same _) (same _)) (p .count) in
-    let k = both (eq-reads (length bytes) (formSize (p .count) masses)) (both heads each) .0 h in
-    record {
-      sized = k .0;
-      count = k .1 .0 .0;
-      masses = k .1 .0 .1 .0;
-      first = k .1 .0 .1 .1 .0;
-      second = k .1 .0 .1 .1 .1 .0;
-      size = k .1 .0 .1 .1 .1 .1 .0;
-      record-size = k .1 .0 .1 .1 .1 .1 .1 .0;
-      mass-size = k .1 .0 .1 .1 .1 .1 .1 .1;
-      marks = k .1 .1;
-    }
+pub few-fit : (bytes : List ℕ) (i : ℕ) → FittingRecord bytes i → liveCount (recordIn bytes i) ≤ wide
+unfolding recordFrom
+few-fit bytes i f = go (codeIn bytes i) (f .counts-fit)
   where
-    same : (b : Bool) → (b ≡ true) ↔ (b ≡ true)
-    same b = (λ e. e, λ e. e)
-
-pub few-by : (m : Mark) (w : Walked) → countFits m w ≡ true → liveBy m w ≤ wide
-few-by Open w h = within-reads 1 wide (countsBetween (w .lower) (w .upper)) .0 h .1
-few-by (Above u) w h = omega arith
-few-by (AtMost u) w h = omega arith
+    go : (code : ℕ) → (code ≡ 0 → (1 ≤ betweenIn bytes i) × (betweenIn bytes i ≤ wide)) → liveBy (markOf code (stepIn bytes i)) (recordIn bytes i .walked) ≤ wide
+    go zero h = h refl .1
+    go (suc zero) h = omega arith
+    go (suc (suc code)) h = omega arith
 
 -- the masses of a threshold lie among all
 pub masses-within : (records : ℕ → Threshold) (n i : ℕ) → i < n → massesTo records i + liveCount (records i) ≤ massesTo records n
@@ -187,7 +148,7 @@ masses-within records (suc n) i l =
 
 module _ (p : Plan) (bytes : List ℕ) (each : Bytes bytes) (ok : Accepted p) (f : Fitting p bytes) where
   few : (i : ℕ) → i < p .count → liveCount (recordIn bytes i) ≤ wide
-  few i l = few-by (recordIn bytes i .mark) (recordIn bytes i .walked) (f .marks i l .1)
+  few i l = few-fit bytes i (f .records i l)
 
   record-at : (i : ℕ) → i < p .count → recordAt (stateIn p bytes) i ≡ recordIn bytes i
   record-at = record-held p bytes (ok .count-range .1)
@@ -219,8 +180,8 @@ module _ (p : Plan) (bytes : List ℕ) (each : Bytes bytes) (ok : Accepted p) (f
         masses-same,
         is-piece 2 0 (p .count) (f .count) (omega arith),
         is-piece 2 2 (massesIn p bytes) (f .masses) (omega arith),
-        is-piece 2 4 headerSize (f .first) (omega arith),
-        is-piece 2 6 (recordOffset (p .count)) (f .second) (omega arith),
+        is-piece 2 4 headerSize (f .record-offset) (omega arith),
+        is-piece 2 6 (recordOffset (p .count)) (f .mass-offset) (omega arith),
         is-piece 4 8 (formSize (p .count) (massesIn p bytes)) (f .size) (omega arith),
         is-piece 4 12 (stateIn p bytes .n) (n-in .0) (omega arith),
         is-piece 4 16 (stateIn p bytes .ones) (n-in .1) (omega arith),
@@ -242,7 +203,7 @@ module _ (p : Plan) (bytes : List ℕ) (each : Bytes bytes) (ok : Accepted p) (f
       ∙ parts-join bytes headerSize recordSize (p .count)
     where
       entry : (i : ℕ) → i < p .count → recordBytes (recordAt (stateIn p bytes) i) ≡ piece (headerSize + recordSize * i) recordSize
-      entry i l = rw (record-at i l) (record-part bytes each (recordOffset i) (f .marks i l .0) (omega (arith, f .sized)))
+      entry i l = rw (record-at i l) (record-part bytes each i (f .records i l) (omega (arith, f .sized)))
 
   masses-parts : massEntries p (stateIn p bytes) (wordsIn p bytes) ≡ piece (recordOffset (p .count)) (massSize * massesIn p bytes)
   unfolding massEntries partIn massOffset formSize
@@ -272,21 +233,11 @@ module _ (p : Plan) (bytes : List ℕ) (each : Bytes bytes) (ok : Accepted p) (f
 
 -- ---- an accepted reading
 
-pub read-says : (p : Plan) (bytes lent : List ℕ) → (readRefusal p bytes lent ≡ 0)
-    ↔ ((planRefusal p ≡ 0) × ((length lent ≡ wide * p .count) × ((formFits p bytes ≡ true) × (stateSound p (stateIn p bytes) (wordsIn p bytes) ≡ true))))
-unfolding readRefusal
-read-says p bytes lent =
-    let sound = stateSound p (stateIn p bytes) (wordsIn p bytes) in
-    none-both (planRefusal p) (unless (wordsFit p lent) 8 ∷ unless (formFits p bytes) 15 ∷ unless sound 11 ∷ []) (λ e. e, λ e. e)
-    (none-says (wordsFit p lent) 7 (unless (formFits p bytes) 15 ∷ unless sound 11 ∷ []) (words-say p lent)
-    (none-says (formFits p bytes) 14 (unless sound 11 ∷ []) (λ e. e, λ e. e)
-    (last-says sound 10 (λ e. e, λ e. e))))
-
 pub bytes-back : BytesBack
 bytes-back p bytes lent each e =
-    let k = read-says p bytes lent .0 e in
+    let k = read-refusal p bytes lent .by-none .0 e in
     let ok = accepted p .0 (k .0) in
-    let f = fitting p bytes (k .1 .1 .0) in (
+    let f = form-says p bytes .0 (k .1 .1 .0) in (
       record {
         accepted = save-says p (stateIn p bytes) (wordsIn p bytes) .1 (k .0, (words-held p bytes, k .1 .1 .1));
         typed = λ i l. rw (record-at p bytes each ok f i l) (typed bytes each (recordOffset i));

@@ -3,7 +3,8 @@ pub mod AlikeLaws
 -- The saved form: lengths, and fields of it.
 pub mod Sizes
 pub mod Fields
--- What the judgement of a test says, and the two round trips.
+-- What the judgements of a form and of a test say, and the two round trips.
+pub mod Refusals
 pub mod Judged
 pub mod HeldLaws
 pub mod TestBack

@@ -25,18 +25,17 @@ use Rattle.little.proofs.FilledLaws.{filled-over, filled-take}
 use Rattle.plan.specs.declared.Plan.{Plan}
 use Rattle.bucket_test.specs.declared.State.{State}
 use Rattle.plan.specs.Plan.{countLimit, spendingOf, planRefusal}
-use Rattle.plan.proofs.AcceptedLaws.{accepted}
-use Rattle.bucket_test.specs.Words.{partAt, wordsFit}
-use Rattle.bucket_test.specs.Turn.{noRecord, recordAt, recordSound, recordSoundAt}
+use Rattle.bucket_test.specs.Words.{wordsFit}
+use Rattle.bucket_test.specs.Turn.{recordAt, recordSound, recordSoundAt}
 use Rattle.bucket_test.specs.Draw.{stateSound, noState}
 use Rattle.saved_test.specs.declared.Loaded.{Loaded}
 use Rattle.saved_test.specs.Form.{drawsField, onesField, massSize, recordOffset, formSize, liveCount, massesTo}
 use Rattle.saved_test.specs.Inner.{FormFits}
-use Rattle.saved_test.specs.Reading.{markOf, markKnown, recordFrom, recordIn, recordFits, massOffset, partIn, massesIn, headerFits, formFits, stateIn, wordsIn, readRefusal, loaded, wordsAfter}
+use Rattle.saved_test.specs.Reading.{markOf, recordFrom, recordIn, recordFits, massOffset, partIn, massesIn, headerFits, formFits, stateIn, wordsIn, readRefusal, loaded, wordsAfter}
 use Rattle.saved_test.proofs.AlikeLaws.{sound-by}
-use Rattle.saved_test.proofs.Judged.{masses-cong}
 use Rattle.saved_test.proofs.HeldLaws.{record-held, part-held}
-use Rattle.saved_test.proofs.BytesBack.{few-by, masses-within, fitting}
+use Rattle.saved_test.proofs.Refusals.{record-says, form-says}
+use Rattle.saved_test.proofs.BytesBack.{few-fit, masses-within}
 
 -- a record from its fields
 pub record-made : (bytes : List ℕ) (at code step bits upper over under : ℕ) (m : Mark) (z : ℤ)
@@ -117,10 +116,7 @@ module _ (p : Plan) (bytes : List ℕ) (count : ℕ) (counts : p .count ≡ coun
 module _ (bytes : List ℕ) (count i : ℕ) (l : i < count) (known : allTo count (recordFits bytes) ≡ true)
     (size : length bytes ≡ formSize count (massesTo (recordIn bytes) count)) where
   pub part-few : liveCount (recordIn bytes i) ≤ wide
-  unfolding recordFits
-  part-few =
-      few-by (recordIn bytes i .mark) (recordIn bytes i .walked)
-      (and-true (markKnown (field 4 (recordOffset i) bytes) (field 4 (recordOffset i + 4) bytes)) _ (all-reads (recordFits bytes) count .0 known i l) .1)
+  part-few = few-fit bytes i (record-says bytes i .0 (all-reads (recordFits bytes) count .0 known i l))
 
   pub part-inside : massOffset bytes count i + 8 * liveCount (recordIn bytes i) ≤ length bytes
   unfolding massOffset formSize
@@ -156,13 +152,13 @@ part-made bytes count i n at q e f h = h ∙ rw (e, f)
 module _ (p : Plan) (bytes : List ℕ) (form : formFits p bytes ≡ true) where
   pub form-long : 24 + 32 * p .count ≤ length bytes
   unfolding formSize recordOffset
-  form-long = omega (arith, fitting p bytes form .sized)
+  form-long = omega (arith, form-says p bytes .0 form .sized)
 
   pub form-held : FormFits (p .count) bytes
   unfolding formFits
   form-held = record {
     records = and-true (headerFits p bytes) _ (and-true (eq? (length bytes) (formSize (p .count) (massesIn p bytes))) _ form .1) .1;
-    sized = fitting p bytes form .sized;
+    sized = form-says p bytes .0 form .sized;
   }
 
 -- ---- plan, 8 and 15, before the test is judged

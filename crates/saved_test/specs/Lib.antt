@@ -2,6 +2,7 @@
 pub mod Form
 pub mod Writing
 pub mod Reading
+pub mod Refusals
 pub mod Inner
 pub mod Alike
 pub mod RoundTrip
