@@ -71,6 +71,18 @@ answer-seen p s records same st h spent e =
     rule-of p s (h .low ∙ largest-cong (p .count) _ _ 0 (λ i l. rw (same i l))) (h .high ∙ smallest-cong (p .count) _ _ million (λ i l. rw (same i l)))
     (h .wide ∙ any-cong (p .count) _ _ (λ i l. rw (same i l))) e
 
+-- .. that bytes hold, by tables of the plan
+pub answer-held : (p : Plan) (bytes thresholds : List ℕ) (count buckets : ℕ) → p .thresholds ≡ thresholds → p .count ≡ count → p .buckets ≡ buckets
+    → count ≤ countLimit → (st : Standing) → Seen thresholds count (recordIn bytes) st → (spent : Bool) → spent ≡ eq? (stateIn p bytes .n) (p .horizon)
+    → let j = chosenBucket p (st .low) (st .high) in
+    firstThatFits (lt? (st .high) (st .low)) (lt? j buckets) j (st .wide) spent ≡ answerOf p (stateIn p bytes)
+answer-held p bytes thresholds count buckets ts k b few st h spent e =
+    rw (← b)
+    (answer-seen p (stateIn p bytes) (recordIn bytes) (record-held p bytes (omega arith)) st (along (sym ts) (sym k) h) spent e)
+  where
+    along : {ts ts′ : List ℕ} {k k′ : ℕ} → ts ≡ ts′ → k ≡ k′ → Seen ts k (recordIn bytes) st → Seen ts′ k′ (recordIn bytes) st
+    along t k h = rw (t, k) at h
+
 module _ (p : Plan) (bytes : List ℕ) (d : ℕ) (lent : List ℕ) (good : planRefusal p ≡ 0) where
   abbrev s : State
   s = stateIn p bytes
@@ -81,14 +93,6 @@ module _ (p : Plan) (bytes : List ℕ) (d : ℕ) (lent : List ℕ) (good : planR
   n-in : stateIn p bytes .n ≡ field 4 drawsField bytes
   unfolding stateIn
   n-in = refl
-
-  -- before the draw
-  pub answer-before : (st : Standing) → Seen (p .thresholds) (p .count) (recordIn bytes) st → (n : ℕ) → n ≡ field 4 drawsField bytes → (spent : Bool)
-      → spent ≡ eq? n (p .horizon)
-      → let j = chosenBucket p (st .low) (st .high) in firstThatFits (lt? (st .high) (st .low)) (lt? j (p .buckets)) j (st .wide) spent ≡ answerOf p s
-  answer-before st h n n-is spent e =
-      answer-seen p s (recordIn bytes) (record-held p bytes (accepted p .0 good .count-range .1)) st h spent
-      (e ∙ ap (λ (m : ℕ). eq? m (p .horizon)) (n-is ∙ sym n-in))
 
   -- ---- the ways out
 
@@ -114,7 +118,7 @@ module _ (p : Plan) (bytes : List ℕ) (d : ℕ) (lent : List ℕ) (good : planR
       by-refusal : (q : ℕ) → r .refusal ≡ q → (calledBy q p (outcome p bytes d lent) lent .number ≡ drawnOn 0 p bytes d lent .number)
           × (after ≡ drawnOn 0 p bytes d lent .bytes)
       by-refusal q e =
-          let same : firstRefusal (drawRefusal p s ws d ∷ roomRefusal p (outcome p bytes d lent) lent ∷ []) ≡ q = sym (t .refused) ∙ e in
+          let same : firstRefusal (drawRefusal p s ws d ∷ roomRefusal p (outcome p bytes d lent) lent ∷ []) ≡ q = sym (t .refusal-is) ∙ e in
           rw (form, same) (refl, rw e at (t .written))
 
       pub hands-refused : ¬ (r .refusal ≡ 0) → Hands (r .refusal) after
@@ -126,7 +130,7 @@ module _ (p : Plan) (bytes : List ℕ) (d : ℕ) (lent : List ℕ) (good : planR
 
       module _ (none : r .refusal ≡ 0) where
         taken : drawRefusal p s ws d ≡ 0
-        taken = go (drawRefusal p s ws d) (roomRefusal p (outcome p bytes d lent) lent) (sym (t .refused) ∙ none)
+        taken = go (drawRefusal p s ws d) (roomRefusal p (outcome p bytes d lent) lent) (sym (t .refusal-is) ∙ none)
           where
             go : (a b : ℕ) → firstRefusal (a ∷ b ∷ []) ≡ 0 → a ≡ 0
             go zero b e = refl

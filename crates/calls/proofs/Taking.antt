@@ -52,8 +52,8 @@ use Rattle.saved_test.proofs.Sizes.{header-length, form-length}
 use Rattle.saved_test.proofs.ReadingLaws.{part-few, form-held}
 use Rattle.calls.proofs.TurnLaws.{new-small}
 use Rattle.calls.specs.Calls.{roomRefusal, calledBy}
-use Rattle.saved_test.specs.Inner.{FormFits, HasRoom}
-use Rattle.calls.specs.Inner.{Seen, newRecord, newPart, newSize, newEntries, Turns, HasRoomToTurn, Ready, outcome, Took}
+use Rattle.saved_test.specs.Inner.{RecordsAndMasses, PartHolds}
+use Rattle.calls.specs.Inner.{Seen, newRecord, newPart, newSize, newEntries, Turns, PartHoldsOneMore, Ready, outcome, Took}
 use Rattle.calls.specs.declared.Standing.{Standing}
 use Rattle.calls.specs.declared.Taken.{Taken}
 
@@ -206,7 +206,7 @@ module _ (p : Plan) (bytes : List ℕ) (d : ℕ) (good : planRefusal p ≡ 0) (f
     took-12 lent small r is =
         let e : le? (savedSize p next) (length lent) ≡ false = rw size-is at small in
         record {
-          refused = rw (refused-by true sound, drawn-is, e) is;
+          refusal-is = rw (refused-by true sound, drawn-is, e) is;
           written = rw is refl;
           standing = λ z. absurd (omega (arith, is, z));
         }
@@ -240,14 +240,14 @@ module _ (p : Plan) (bytes : List ℕ) (d : ℕ) (good : planRefusal p ≡ 0) (f
         ∙ put-before 0 headerSize (header p next) (recordEntries p next ++ massEntries p next (nextWords p s ws d)) lent (omega (arith, header-length p next)) (omega arith)
         ∙ put-first form lent ∙ ap (λ (n : ℕ). form ++ drop n lent) (form-length p next (nextWords p s ws d)) in
         record {
-          refused = rw (refused-by true sound, drawn-is, e) is;
+          refusal-is = rw (refused-by true sound, drawn-is, e) is;
           written = rw (is, drawn-is) whole;
           standing = λ z. rw drawn-is (seen-is _ st);
         }
 
   took-11 : stateSound p s ws ≡ false → (lent : List ℕ) (r : Taken) → r .refusal ≡ 11 → Took p bytes d lent r lent
   took-11 spoiled lent r is = record {
-    refused = rw (refused-by false spoiled) is;
+    refusal-is = rw (refused-by false spoiled) is;
     written = rw is refl;
     standing = λ z. absurd (omega (arith, is, z));
   }
@@ -269,13 +269,13 @@ module _ (thresholds allowances : List ℕ) (count delay horizon : ℕ) (bytes :
   pub ready-few : count ≤ countLimit
   ready-few = omega (arith, ready-ok .count-range .1, j .count-is)
 
-  ready-form : FormFits count bytes
+  ready-form : RecordsAndMasses count bytes
   ready-form = rw (j .count-is) at (form-held plan bytes (j .form))
 
   -- what judging it by 11 asks, in words with room for one mass more than each threshold has
-  pub may-judge : (room : ℕ) → HasRoomToTurn count bytes room
+  pub may-judge : (room : ℕ) → PartHoldsOneMore count bytes room
       → (count ≤ countLimit) × ((i : ℕ) → i < count → getD allowances i 0 ≤ allowanceLimit) × (1 ≤ delay) × (horizon ≤ horizonLimit)
-      × FormFits count bytes × HasRoom count bytes room
+      × RecordsAndMasses count bytes × PartHolds count bytes room
   may-judge room h = (
     ready-few,
     λ i l. rw (j .allowances-are) at (ready-ok .allowance-range i (omega (arith, l, j .count-is)) .1),
@@ -290,11 +290,11 @@ module _ (thresholds allowances : List ℕ) (count delay horizon : ℕ) (bytes :
   numbered = omega (arith, ready-form .sized)
 
   -- so many words have that room where a form has fewer masses in all, and 769 words always
-  pub few-in-all : (room : ℕ) → length bytes < recordOffset count + massSize * room → HasRoomToTurn count bytes room
+  pub few-in-all : (room : ℕ) → length bytes < recordOffset count + massSize * room → PartHoldsOneMore count bytes room
   unfolding formSize
   few-in-all room short i l = omega (arith, ready-form .sized, masses-within (recordIn bytes) count i l)
 
-  pub few-live-in : HasRoomToTurn count bytes wide
+  pub few-live-in : PartHoldsOneMore count bytes wide
   few-live-in i l =
       let held = record-held plan bytes (ready-ok .count-range .1) i (omega (arith, l, j .count-is)) in
       let thin-i = rw held at (thin plan bytes d (j .judged) (j .form) (j .bit) (j .goes-on) i (omega (arith, l, j .count-is))) in

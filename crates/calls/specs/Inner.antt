@@ -1,4 +1,5 @@
--- What inner contracts speak of: the thresholds that saved bytes hold, one by one, by the tables of a plan. No rule is here.
+-- The rules said again for inner contracts, of the thresholds that saved bytes hold, one by one and by the tables of a plan; proofs/Taking and
+-- proofs/CallLaws show that they are the same. No entry's contract cites this file.
 use mathlib.Core.Path.{_≡_}
 use mathlib.Core.Bool.{true, false}
 use mathlib.Core.List.{List, [], _∷_, _++_}
@@ -13,11 +14,11 @@ use Rattle.plan.specs.Plan.{countLimit, planRefusal}
 use Rattle.plan.specs.declared.Plan.{Plan}
 use Rattle.bucket_test.specs.Turn.{recordAt, wideOpen, turnRecord, turnPart, MayTurn}
 use Rattle.bucket_test.specs.Answers.{answerOf, isEnding}
-use Rattle.bucket_test.specs.Draw.{Outcome, drawRefusal, nextState, drawn}
+use Rattle.bucket_test.specs.Draw.{Outcome, drawRefusal, drawn}
 use Rattle.bucket_test.specs.declared.Threshold.{Threshold}
 use Rattle.saved_test.specs.Form.{massSize, recordOffset, formSize, liveCount, massesTo, recordBytes, massBytes}
 use Rattle.saved_test.specs.Reading.{recordIn, partIn, stateIn, wordsIn, formFits}
-use Rattle.saved_test.specs.Inner.{FormFits}
+use Rattle.saved_test.specs.Inner.{RecordsAndMasses}
 use Rattle.calls.specs.Calls.{roomRefusal, calledBy}
 use Rattle.calls.specs.declared.Standing.{Standing}
 use Rattle.calls.specs.declared.Taken.{Taken}
@@ -60,15 +61,21 @@ module _ (thresholds allowances : List ℕ) (count delay n ones : ℕ) (bytes : 
     pub allowed : (i : ℕ) → i < count → getD allowances i 0 ≤ allowanceLimit
     pub delayed : 1 ≤ delay
     pub early : n ≤ horizonLimit
-    pub form : FormFits count bytes
+    pub form : RecordsAndMasses count bytes
     pub may : (i : ℕ) → i < count
         → MayTurn (getD thresholds i 0) (spending (getD allowances i 0) delay n) (recordIn bytes i .mark) (recordIn bytes i) (partIn bytes count i)
-    -- each leaves at most 769 masses, and at most one more than before
+    -- a fact of such steps: each leaves at most 769 masses, and at most one more than before
     pub grows : (i : ℕ) → i < count → (liveCount (newRecord i) ≤ wide) × (liveCount (newRecord i) ≤ liveCount (recordIn bytes i) + 1)
 
--- room for the masses of any one of them and one more
-abbrev pub HasRoomToTurn : ℕ → List ℕ → ℕ → Type 0
-HasRoomToTurn count bytes room = (i : ℕ) → i < count → liveCount (recordIn bytes i) < room
+-- a part of so many words holds the masses of any one of them and one more; so many words are enough for a form with fewer masses in all
+abbrev pub PartHoldsOneMore : ℕ → List ℕ → ℕ → Type 0
+PartHoldsOneMore count bytes room = (i : ℕ) → i < count → liveCount (recordIn bytes i) < room
+
+abbrev pub short : ℕ
+short = 32
+
+abbrev pub middle : ℕ
+middle = 128
 
 -- a draw that only 11 and 12 can refuse, under an accepted plan with these tables
 pub record Ready (thresholds allowances : List ℕ) (count delay horizon : ℕ) (bytes : List ℕ) (d : ℕ) : Type 0 where
@@ -89,6 +96,6 @@ module _ (p : Plan) (bytes : List ℕ) (d : ℕ) (lent : List ℕ) where
   outcome = drawn p (stateIn p bytes) (wordsIn p bytes) d
 
   pub record Took (r : Taken) (after : List ℕ) : Type 0 where
-    pub refused : r .refusal ≡ firstRefusal (drawRefusal p (stateIn p bytes) (wordsIn p bytes) d ∷ roomRefusal p outcome lent ∷ [])
+    pub refusal-is : r .refusal ≡ firstRefusal (drawRefusal p (stateIn p bytes) (wordsIn p bytes) d ∷ roomRefusal p outcome lent ∷ [])
     pub written : after ≡ calledBy (r .refusal) p outcome lent .bytes
     pub standing : r .refusal ≡ 0 → Seen (p .thresholds) (p .count) (recordAt (outcome .state)) (record { low = r .low; high = r .high; wide = r .wide })

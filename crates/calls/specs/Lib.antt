@@ -1,4 +1,4 @@
--- What a reader of this crate has to believe, with its sections of docs/SAVED.md. Definitions only; `Inner` has no rule.
+-- What a reader of this crate has to believe, with its sections of docs/SAVED.md. Definitions only; `Inner` is cited by inner contracts alone.
 pub mod Calls
 pub mod Chain
 pub mod Room

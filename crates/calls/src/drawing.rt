@@ -1,9 +1,9 @@
 // A draw to the test that saved bytes hold, once plan, form, draw and answer are judged (saved 6).
 ghost use mathlib.Core.Path.{_≡_};
-ghost use Prim.Native.Nat.{_+_, _*_, _≤_, _<_};
+ghost use Prim.Native.Nat.{_+_, _*_, _<_};
 ghost use lib.ListN.{length};
 ghost use Rattle.saved_test.specs.Form.{massSize, recordOffset};
-ghost use Rattle.calls.specs.Inner.{HasRoomToTurn, Ready, Took};
+ghost use Rattle.calls.specs.Inner.{PartHoldsOneMore, short, middle, Ready, Took};
 use crate::Taken;
 use crate::turns::has_room;
 use crate::turns::turn_into;
@@ -18,7 +18,7 @@ use saved_test::reading::state_sound_in;
 use saved_test::writing::write_header;
 use walk::WIDE;
 
-// Words for the masses of a threshold in a form that has fewer; so a short form, whose call takes little time, does not set 769 words to zero.
+// Words of a part for a form with fewer masses in all, in place of 769, so that a short form's call does not set 769 words to zero.
 const SHORT: usize = 32;
 
 const MIDDLE: usize = 128;
@@ -34,7 +34,7 @@ fn refused(r: u32) -> Taken
     }
 }
 
-// With a part to walk in.
+// The draw, with a part to walk in.
 fn take_with<'a>(
     thresholds: &'a [u32; COUNT_LIMIT],
     allowances: &'a [u64; COUNT_LIMIT],
@@ -46,7 +46,7 @@ fn take_with<'a>(
     part: &mut [u64],
     lent: &mut [u8],
 ) -> Taken
-    requires { ⌜ Ready (now thresholds) (now allowances) count delay horizon (now bytes) d × HasRoomToTurn count (now bytes) (length (now part)) ⌝ }
+    requires { ⌜ Ready (now thresholds) (now allowances) count delay horizon (now bytes) d × PartHoldsOneMore count (now bytes) (length (now part)) ⌝ }
     ensures { λ r. ⌜ ((j : Ready (now (thresholds .entry)) (now (allowances .entry)) count delay horizon (now (bytes .entry)) d)
         → Took (j .plan) (now (bytes .entry)) d (now (lent .entry)) r (now (lent .exit))) ⌝ }
 {
@@ -90,7 +90,7 @@ fn take_with<'a>(
     }
 }
 
-// In a part of its own, for a form with fewer masses than that.
+// .. in a part of its own, of the fewest words.
 fn take_in_short<'a>(
     thresholds: &'a [u32; COUNT_LIMIT],
     allowances: &'a [u64; COUNT_LIMIT],
@@ -101,7 +101,7 @@ fn take_in_short<'a>(
     d: u32,
     lent: &mut [u8],
 ) -> Taken
-    requires { ⌜ Ready (now thresholds) (now allowances) count delay horizon (now bytes) d × (length (now bytes) < recordOffset count + massSize * 32) ⌝ }
+    requires { ⌜ Ready (now thresholds) (now allowances) count delay horizon (now bytes) d × (length (now bytes) < recordOffset count + massSize * short) ⌝ }
     ensures { λ r. ⌜ ((j : Ready (now (thresholds .entry)) (now (allowances .entry)) count delay horizon (now (bytes .entry)) d)
         → Took (j .plan) (now (bytes .entry)) d (now (lent .entry)) r (now (lent .exit))) ⌝ }
 {
@@ -119,7 +119,7 @@ fn take_in_short<'a>(
     )
 }
 
-// .. with more of them.
+// .. of more words.
 fn take_in_middle<'a>(
     thresholds: &'a [u32; COUNT_LIMIT],
     allowances: &'a [u64; COUNT_LIMIT],
@@ -130,7 +130,7 @@ fn take_in_middle<'a>(
     d: u32,
     lent: &mut [u8],
 ) -> Taken
-    requires { ⌜ Ready (now thresholds) (now allowances) count delay horizon (now bytes) d × (length (now bytes) < recordOffset count + massSize * 128) ⌝ }
+    requires { ⌜ Ready (now thresholds) (now allowances) count delay horizon (now bytes) d × (length (now bytes) < recordOffset count + massSize * middle) ⌝ }
     ensures { λ r. ⌜ ((j : Ready (now (thresholds .entry)) (now (allowances .entry)) count delay horizon (now (bytes .entry)) d)
         → Took (j .plan) (now (bytes .entry)) d (now (lent .entry)) r (now (lent .exit))) ⌝ }
 {
@@ -148,7 +148,7 @@ fn take_in_middle<'a>(
     )
 }
 
-// .. for any form.
+// .. of as many as any form needs.
 fn take_in_any<'a>(
     thresholds: &'a [u32; COUNT_LIMIT],
     allowances: &'a [u64; COUNT_LIMIT],
@@ -177,7 +177,7 @@ fn take_in_any<'a>(
     )
 }
 
-// In as few words as its masses need.
+// .. in the smallest of these that is enough.
 pub(crate) fn take_in<'a>(
     thresholds: &'a [u32; COUNT_LIMIT],
     allowances: &'a [u64; COUNT_LIMIT],

@@ -8,12 +8,11 @@ mod turns;
 use answers::answer_number;
 use beginning::begin_on;
 use bucket_test::answering::first_that_fits;
-use bucket_test::drawing::is_ending;
 use drawing::take_in;
 use little::numbers::read_u32;
 use saved_test::form::DRAWS_FIELD;
 use saved_test::reading::form_fits;
-use stands::standing_in;
+use stands::has_ended;
 use stored_plan::reading::read_plan;
 ghost use mathlib.Core.Path.{_≡_};
 ghost use Rattle.calls.specs.Calls.{calledBegin, calledDraw};
@@ -31,7 +30,7 @@ pub struct Turned {
     pub standing: Standing,
 }
 
-// The refusal, 11 or 12, or 0 and how the new records stand; number by number, since a copy of what was stored by parts waits for them.
+// The refusal, 11 or 12, or 0 and how the new records stand.
 pub struct Taken {
     pub refusal: u32,
     pub low: u32,
@@ -76,17 +75,15 @@ pub extern "C" fn vimorake_draw(plan: &[u8], saved: &[u8], draw: u32, lent: &mut
     let buckets = read.plan.buckets;
     let horizon = read.plan.horizon;
     let n = read_u32(saved, DRAWS_FIELD);
-    let before = standing_in(&read.plan.thresholds, count, saved);
-    let answer_before = first_that_fits(
-        before.low,
-        before.high,
-        before.wide,
-        n == horizon,
+    if has_ended(
+        &read.plan.thresholds,
         &read.plan.left,
         &read.plan.right,
+        count,
         buckets,
-    );
-    if is_ending(answer_before) {
+        n == horizon,
+        saved,
+    ) {
         return 10;
     }
     let taken = take_in(

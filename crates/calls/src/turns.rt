@@ -8,7 +8,7 @@ ghost use Rattle.walk.specs.Record.{rowOf};
 ghost use Rattle.bucket_test.specs.Turn.{turnRecord, turnPart, MayTurn};
 ghost use Rattle.little.specs.Little.{column, filled, putAt};
 ghost use Rattle.saved_test.specs.Form.{headerSize, massSize, liveCount, massesTo};
-ghost use Rattle.calls.specs.Inner.{Seen, Turns, HasRoomToTurn, newRecord, newSize, newEntries};
+ghost use Rattle.calls.specs.Inner.{Seen, Turns, PartHoldsOneMore, newRecord, newSize, newEntries};
 use crate::Turned;
 use crate::stands::seen;
 use crate::stands::unseen;
@@ -59,7 +59,7 @@ fn size_after<'a>(
     ones: u32,
     part: &mut [u64],
 ) -> usize
-    requires { ⌜ Turns (now thresholds) (now allowances) count delay n ones (now bytes) × HasRoomToTurn count (now bytes) (length (now part)) ⌝ }
+    requires { ⌜ Turns (now thresholds) (now allowances) count delay n ones (now bytes) × PartHoldsOneMore count (now bytes) (length (now part)) ⌝ }
     ensures { λ r. ⌜ r ≡ newSize (now (thresholds .entry)) (now (allowances .entry)) count delay n ones (now (bytes .entry)) ⌝ }
 {
     let mut at = HEADER_SIZE + RECORD_SIZE * count;
@@ -86,7 +86,7 @@ pub(crate) fn has_room<'a>(
     part: &mut [u64],
     room: usize,
 ) -> bool
-    requires { ⌜ Turns (now thresholds) (now allowances) count delay n ones (now bytes) × HasRoomToTurn count (now bytes) (length (now part)) ⌝ }
+    requires { ⌜ Turns (now thresholds) (now allowances) count delay n ones (now bytes) × PartHoldsOneMore count (now bytes) (length (now part)) ⌝ }
     ensures { λ r. ⌜ r ≡ le? (newSize (now (thresholds .entry)) (now (allowances .entry)) count delay n ones (now (bytes .entry))) room ⌝ }
 {
     if bytes.len() + MASS_SIZE * count <= room {
@@ -107,7 +107,7 @@ pub(crate) fn turn_into<'a>(
     part: &mut [u64],
     lent: &mut [u8],
 ) -> Turned
-    requires { ⌜ Turns (now thresholds) (now allowances) count delay n ones (now bytes) × HasRoomToTurn count (now bytes) (length (now part))
+    requires { ⌜ Turns (now thresholds) (now allowances) count delay n ones (now bytes) × PartHoldsOneMore count (now bytes) (length (now part))
         × (newSize (now thresholds) (now allowances) count delay n ones (now bytes) ≤ length (now lent)) ⌝ }
     ensures { λ r. ⌜
         (r .masses ≡ massesTo (newRecord (now (thresholds .entry)) (now (allowances .entry)) count delay n ones (now (bytes .entry))) count)

@@ -30,7 +30,7 @@ use Rattle.bucket_test.specs.Turn.{recordAt, recordSound, recordSoundAt}
 use Rattle.bucket_test.specs.Draw.{stateSound, noState}
 use Rattle.saved_test.specs.declared.Loaded.{Loaded}
 use Rattle.saved_test.specs.Form.{drawsField, onesField, massSize, recordOffset, formSize, liveCount, massesTo}
-use Rattle.saved_test.specs.Inner.{FormFits}
+use Rattle.saved_test.specs.Inner.{RecordsAndMasses}
 use Rattle.saved_test.specs.Reading.{markOf, recordFrom, recordIn, recordFits, massOffset, partIn, massesIn, headerFits, formFits, stateIn, wordsIn, readRefusal, loaded, wordsAfter}
 use Rattle.saved_test.proofs.AlikeLaws.{sound-by}
 use Rattle.saved_test.proofs.HeldLaws.{record-held, part-held}
@@ -154,7 +154,7 @@ module _ (p : Plan) (bytes : List ℕ) (form : formFits p bytes ≡ true) where
   unfolding formSize recordOffset
   form-long = omega (arith, form-says p bytes .0 form .sized)
 
-  pub form-held : FormFits (p .count) bytes
+  pub form-held : RecordsAndMasses (p .count) bytes
   unfolding formFits
   form-held = record {
     records = and-true (headerFits p bytes) _ (and-true (eq? (length bytes) (formSize (p .count) (massesIn p bytes))) _ form .1) .1;
@@ -189,7 +189,7 @@ form-judged p bytes m =
 -- ---- refusal 11, part by part
 
 -- one threshold, with n masses from an offset on
-module _ (bytes : List ℕ) (count : ℕ) (form : FormFits count bytes) (i : ℕ) (l : i < count) (n at : ℕ) (live : n ≡ liveCount (recordIn bytes i))
+module _ (bytes : List ℕ) (count : ℕ) (form : RecordsAndMasses count bytes) (i : ℕ) (l : i < count) (n at : ℕ) (live : n ≡ liveCount (recordIn bytes i))
     (here : at ≡ massOffset bytes count i) where
   pub held-few : n ≤ wide
   held-few = rw live (part-few bytes count i l (form .records) (form .sized))

@@ -1,4 +1,5 @@
--- What a reader of this crate has to believe: each file after those it rests on, with its sections of docs/SAVED.md. Definitions only.
+-- What a reader of this crate has to believe: each file after those it rests on, with its sections of docs/SAVED.md. Definitions only; `Inner` is cited by
+-- inner contracts alone.
 pub mod Form
 pub mod Writing
 pub mod Reading

@@ -14,7 +14,7 @@ ghost use Rattle.little.specs.Little.{field, column, filled};
 ghost use Rattle.saved_test.specs.Form.{headerSize, countField, massesField, recordOffsetField, massOffsetField, sizeField, recordSizeField, massSizeField};
 ghost use Rattle.saved_test.specs.Form.{recordSize, stepField, massSize, massesTo};
 ghost use Rattle.saved_test.specs.Reading.{markKnown, countFits, recordFrom, recordIn, recordFits, partIn, stateIn, wordsIn, formFits, loaded, wordsAfter};
-ghost use Rattle.saved_test.specs.Inner.{FormFits, HasRoom};
+ghost use Rattle.saved_test.specs.Inner.{RecordsAndMasses, PartHolds};
 use crate::Loaded;
 use crate::form::COUNT_FIELD;
 use crate::form::DRAWS_FIELD;
@@ -56,7 +56,7 @@ use walk::row::clear_from;
 use walk::spending::spending_at;
 use walk::starting::start_walked;
 
-// The record at an offset. Its mark comes first, so that no branch stands between the other fields and what is made of them.
+// The record at an offset. Its mark comes first: its cases part the code, and the compiler makes one load of a field only where they do not.
 pub fn record_from(bytes: &[u8], at: usize) -> Threshold
     requires { ⌜ at + recordSize ≤ length (now bytes) ⌝ }
     ensures { λ r. ⌜ r ≡ recordFrom (now (bytes .entry)) at ⌝ }
@@ -224,7 +224,7 @@ fn part_in(bytes: &[u8], at: usize, count: usize, part: &mut [u64])
 
 // The words that the bytes hold, where the form fits.
 fn parts_in(bytes: &[u8], count: usize, words: &mut [u64])
-    requires { ⌜ (count ≤ countLimit) × (length (now words) ≡ wide * count) × FormFits count (now bytes) ⌝ }
+    requires { ⌜ (count ≤ countLimit) × (length (now words) ≡ wide * count) × RecordsAndMasses count (now bytes) ⌝ }
     ensures { λ _. ⌜ now (words .exit) ≡ joinTo count (partIn (now (bytes .entry)) count) ⌝ }
 {
     let mut at = HEADER_SIZE + RECORD_SIZE * count;
@@ -249,7 +249,7 @@ fn parts_sound(
     part: &mut [u64],
 ) -> bool
     requires { ⌜ (count ≤ countLimit) × ((i : ℕ) → i < count → getD (now allowances) i 0 ≤ allowanceLimit) × (1 ≤ delay) × (n ≤ horizonLimit)
-        × FormFits count (now bytes) × HasRoom count (now bytes) (length (now part)) ⌝ }
+        × RecordsAndMasses count (now bytes) × PartHolds count (now bytes) (length (now part)) ⌝ }
     ensures { λ r. ⌜ r ≡ allTo count (λ i. recordSound (spending (getD (now (allowances .entry)) i 0) delay n) n ones
         (recordIn (now (bytes .entry)) i .mark) (recordIn (now (bytes .entry)) i) (partIn (now (bytes .entry)) count i)) ⌝ }
 {
@@ -277,7 +277,7 @@ pub fn state_sound_in(
     part: &mut [u64],
 ) -> bool
     requires { ⌜ (count ≤ countLimit) × ((i : ℕ) → i < count → getD (now allowances) i 0 ≤ allowanceLimit) × (1 ≤ delay) × (horizon ≤ horizonLimit)
-        × FormFits count (now bytes) × HasRoom count (now bytes) (length (now part)) ⌝ }
+        × RecordsAndMasses count (now bytes) × PartHolds count (now bytes) (length (now part)) ⌝ }
     ensures { λ r. ⌜ ((p : Plan) → p .count ≡ count → p .allowances ≡ now (allowances .entry) → p .delay ≡ delay → p .horizon ≡ horizon
         → r ≡ stateSound p (stateIn p (now (bytes .entry))) (wordsIn p (now (bytes .entry)))) ⌝ }
 {

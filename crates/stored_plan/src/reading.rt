@@ -1,6 +1,6 @@
 // Reading a stored plan: any bytes give a plan or a refusal (rules 2.2).
 ghost use mathlib.Core.Path.{_≡_};
-ghost use Prim.Native.Nat.{ℕ, _+_, _*_, _≤_, _<_};
+ghost use Prim.Native.Nat.{_≤_};
 ghost use lib.ListN.{length};
 ghost use Rattle.plan.specs.Plan.{countLimit, bucketLimit};
 ghost use Rattle.stored_plan.specs.Form.{headerSize, formSize};

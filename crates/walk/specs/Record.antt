@@ -1,4 +1,4 @@
--- A row as the code holds it: a record with a signed lower boundary, and the 769 words of the threshold's part.
+-- A row as the code holds it: a record with a signed lower boundary, and the words of the threshold's part, the live ones in front.
 use mathlib.Core.Bool.{Bool}
 use mathlib.Core.List.{List, _++_}
 use Prim.Native.Nat.{ℕ, suc, _-_}

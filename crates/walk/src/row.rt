@@ -24,7 +24,7 @@ pub(crate) struct Cut {
     pub under: u64,
 }
 
-// New masses, in place (rules 3.3): n live masses become n + 1 new ones. `step` keeps what it and the others here require.
+// New masses, in place (rules 3.3): n live masses become n + 1 new ones. `advance` keeps what it and the others here require.
 pub(crate) fn spread(part: &mut [u64], n: usize, a: u64)
     requires { ⌜ (n < length (now part)) × (a ≤ million) × (allUpTo massLimit (take n (now part)) ≡ true) ⌝ }
     ensures { λ r. ⌜ now (part .exit) ≡ newMasses a (take n (now (part .entry))) ++ drop (n + 1) (now (part .entry)) ⌝ }

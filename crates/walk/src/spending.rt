@@ -5,7 +5,7 @@ ghost use Prim.Native.Nat.{_≤_};
 ghost use Rattle.walk.specs.Units.{allowanceLimit, horizonLimit};
 ghost use Rattle.walk.specs.Spending.{spending};
 
-// E(n). For `bucket_test` only, whose plans keep these bounds.
+// E(n), under an accepted plan, which keeps these bounds.
 pub fn spending_at(allowance: u64, delay: u32, n: u32) -> u64
     requires { ⌜ (allowance ≤ allowanceLimit) × (1 ≤ delay) × (n ≤ horizonLimit) ⌝ }
     ensures { λ r. ⌜ r ≡ spending allowance delay n ⌝ }

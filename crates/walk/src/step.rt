@@ -30,7 +30,7 @@ fn raised(lower: i32, by: usize) -> i32
 }
 
 // One step of the walk of the threshold a, in place, with e to spend: the new live masses stand in front, and what stands behind them is
-// left as it comes. The part may be of any length with a word more than are live: no other word is touched. For `bucket_test` only, which
+// left as it comes. The part may be of any length with a word more than are live: the code touches no other word. For `bucket_test` only, which
 // steps a state that `is_sound` lets through after at most 50,000 draws, and that is not wide.
 pub fn advance(part: &mut [u64], w: Walked, a: u32, e: u64) -> Walked
     requires { ⌜ Steppable a e w (now part) ⌝ }

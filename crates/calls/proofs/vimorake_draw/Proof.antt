@@ -1,6 +1,6 @@
 -- The refusals in their order, then the draw, and the answer to what it leaves.
 use mathlib.Core.Path.{_≡_, refl, sym, ap, _∙_}
-use mathlib.Core.Bool.{true, false}
+use mathlib.Core.Bool.{true}
 use mathlib.Core.List.{List}
 use Prim.Native.Nat.{ℕ, suc}
 use native.Mathlib.Numerals.{add-one}
@@ -13,14 +13,13 @@ use Rattle.plan.proofs.PlaceLaws.{passed, failed}
 use Rattle.plan.proofs.AcceptedLaws.{accepted}
 use Rattle.bucket_test.specs.Answers.{answerOf, isEnding}
 use Rattle.bucket_test.specs.Draw.{nextState}
-use Rattle.bucket_test.specs.declared.Answer.{Answer}
 use Rattle.saved_test.specs.Form.{recordOffset}
 use Rattle.saved_test.specs.Reading.{stateIn, wordsIn, formFits}
 use Rattle.saved_test.proofs.ReadingLaws.{form-long}
-use Rattle.calls.specs.Calls.{answerNumber, drawnOn, calledDraw}
-use Rattle.calls.specs.Inner.{Ready, Took}
+use Rattle.calls.specs.Calls.{drawnOn, calledDraw}
+use Rattle.calls.specs.Inner.{Ready}
 use Rattle.calls.proofs.BeginLaws.{plan-good, draw-some, draw-none}
-use Rattle.calls.proofs.CallLaws.{rule-small, answer-before, hands-15, hands-9, hands-10, hands-refused, took-early, answer-after, hands-answer}
+use Rattle.calls.proofs.CallLaws.{rule-small, hands-15, hands-9, hands-10, hands-refused, took-early, answer-after, hands-answer}
 use borrow.Author.Needs.{needs}
 use Rattle.calls.proofs.vimorake_draw.Statement.{statement}
 use Rattle.calls.proofs.vimorake_draw.Tie as tie
@@ -79,38 +78,29 @@ returns-3 c =
 read-u32-requires : tie.Need-read-u32-requires
 read-u32-requires c κs = omega (arith, form-long _ _ (form (c .before)))
 
-standing-in-requires : tie.Need-standing-in-requires
+has-ended-requires : tie.Need-has-ended-requires
 unfolding recordOffset
-standing-in-requires c κs = (ok (c .before .before .before .before .before .before) .count-range .1, form-long _ _ (form (c .before .before .before .before)))
+has-ended-requires c κs = (ok (c .before .before .before .before .before .before .before .before) .count-range .1, form-long _ _ (form (c .before .before .before .before .before .before)), ok (c .before .before .before .before .before .before .before .before) .buckets-range .1)
 
-first-that-fits-requires : tie.Need-first-that-fits-requires
-first-that-fits-requires c κs = ok (c .before .before .before .before .before .before .before .before .before .before) .buckets-range .1
-
-is-ending-requires : tie.Need-is-ending-requires
-is-ending-requires c κs = search needs
-
--- the answer before the draw
-was : (c : tie.After-first-that-fits)
-    → c .first-that-fits .result ≡ answerOf (p (c .before .before .before .before .before .before .before .before .before .before .before)) (stateIn (p (c .before .before .before .before .before .before .before .before .before .before .before)) (start (c .before .before .before .before .before .before .before .before .before .before .before) .args .saved .now))
-unfolding eq?
-was c =
-    let e = c .before .before .before .before .before .before .before .before .before .before .before in
-    c .first-that-fits .ensures (p e) refl refl refl
-    ∙ answer-before (p e) (start e .args .saved .now) (start e .args .draw) (start e .args .lent .now) (good e) (c .before .before .before .before .standing-in .result) (c .before .before .before .before .standing-in .ensures) _ (c .before .before .before .before .before .before .before .read-u32 .ensures .0) _ refl
+-- the answer rule, before the draw
+ended : (c : tie.After-has-ended)
+    → c .has-ended .result ≡ isEnding (answerOf (p (c .before .before .before .before .before .before .before .before .before)) (stateIn (p (c .before .before .before .before .before .before .before .before .before)) (start (c .before .before .before .before .before .before .before .before .before) .args .saved .now)))
+unfolding eq? stateIn
+ended c =
+    let e = c .before .before .before .before .before .before .before .before .before in
+    c .has-ended .ensures (p e) refl refl refl refl refl (ap (λ (m : ℕ). eq? m (p e .horizon)) (c .before .before .before .before .before .read-u32 .ensures .0))
 
 returns-4 : tie.Need-returns-4
 returns-4 c =
-    let e = c .before .before .before .before .before .before .before .before .before .before .before .before .before in
-    hands e _ _
-    (hands-10 (p e) _ _ _ (good e) (form (c .before .before .before .before .before .before .before .before .before .before .before)) (c .before .before .before .before .before .before .before .before .before .before .if3 .left)
-    (ap isEnding (sym (was (c .before .before))) ∙ sym (c .before .is-ending .ensures) ∙ c .if4 .taken))
+    let e = c .before .before .before .before .before .before .before .before .before .before in
+    hands e _ _ (hands-10 (p e) _ _ _ (good e) (form (c .before .before .before .before .before .before .before .before)) (c .before .before .before .before .before .before .before .if3 .left) (sym (ended (c .before)) ∙ c .if4 .taken))
 
 abbrev ready : (c : tie.After-take-in-arg3)
-    → let e = c .before .before .before .before .before .before .before .before .before .before .before .before .before .before .before .before .before in
+    → let e = c .before .before .before .before .before .before .before .before .before .before .before .before .before .before in
     let a = start e .args in
     Ready (p e .thresholds) (p e .allowances) (p e .count) (p e .delay) (p e .horizon) (a .saved .now) (a .draw)
 ready c =
-    let e = c .before .before .before .before .before .before .before .before .before .before .before .before .before .before .before .before .before in
+    let e = c .before .before .before .before .before .before .before .before .before .before .before .before .before .before in
     record {
       plan = p e;
       thresholds-are = refl;
@@ -119,9 +109,9 @@ ready c =
       delay-is = refl;
       horizon-is = refl;
       judged = good e;
-      form = form (c .before .before .before .before .before .before .before .before .before .before .before .before .before .before .before);
-      bit = c .before .before .before .before .before .before .before .before .before .before .before .before .before .before .if3 .left;
-      goes-on = ap isEnding (sym (was (c .before .before .before .before .before .before))) ∙ sym (c .before .before .before .before .before .is-ending .ensures) ∙ c .before .before .before .before .if4 .left;
+      form = form (c .before .before .before .before .before .before .before .before .before .before .before .before);
+      bit = c .before .before .before .before .before .before .before .before .before .before .before .if3 .left;
+      goes-on = sym (ended (c .before .before .before .before .before)) ∙ c .before .before .before .before .if4 .left;
     }
 
 take-in-requires : tie.Need-take-in-requires
@@ -132,44 +122,44 @@ same-length c = search needs
 
 returns-5 : tie.Need-returns-5
 returns-5 c =
-    let e = c .before .before .before .before .before .before .before .before .before .before .before .before .before .before .before .before .before .before .before .before .before .before in
+    let e = c .before .before .before .before .before .before .before .before .before .before .before .before .before .before .before .before .before .before .before in
     hands e _ _
-    (hands-refused (p e) _ _ _ (good e) (form (c .before .before .before .before .before .before .before .before .before .before .before .before .before .before .before .before .before .before .before .before)) _ _ (c .before .before .before .before .take-in .ensures (ready (c .before .before .before .before .before))) (c .if5 .taken))
+    (hands-refused (p e) _ _ _ (good e) (form (c .before .before .before .before .before .before .before .before .before .before .before .before .before .before .before .before .before)) _ _ (c .before .before .before .before .take-in .ensures (ready (c .before .before .before .before .before))) (c .if5 .taken))
 
 add-first-that-fits : tie.Need-add-first-that-fits
 unfolding horizonLimit
 add-first-that-fits c =
-    let e = c .before .before .before .before .before .before .before .before .before .before .before .before .before .before .before .before .before .before .before .before .before .before in
-    let early = took-early (p e) _ _ _ (good e) (form (c .before .before .before .before .before .before .before .before .before .before .before .before .before .before .before .before .before .before .before .before)) _ _ (c .before .before .before .before .take-in .ensures (ready (c .before .before .before .before .before))) (c .if5 .left) in
-    record { fits = omega (arith, early, c .before .before .before .before .before .before .before .before .before .before .before .before .before .before .before .before .before .before .read-u32 .ensures .0) }
+    let e = c .before .before .before .before .before .before .before .before .before .before .before .before .before .before .before .before .before .before .before in
+    let early = took-early (p e) _ _ _ (good e) (form (c .before .before .before .before .before .before .before .before .before .before .before .before .before .before .before .before .before)) _ _ (c .before .before .before .before .take-in .ensures (ready (c .before .before .before .before .before))) (c .if5 .left) in
+    record { fits = omega (arith, early, c .before .before .before .before .before .before .before .before .before .before .before .before .before .before .before .read-u32 .ensures .0) }
 
-first-that-fits-requires-2 : tie.Need-first-that-fits-requires-2
-first-that-fits-requires-2 c κs = ok (c .before .before .before .before .before .before .before .before .before .before .before .before .before .before .before .before .before .before .before .before .before .before .before .before .before) .buckets-range .1
+first-that-fits-requires : tie.Need-first-that-fits-requires
+first-that-fits-requires c κs = ok (c .before .before .before .before .before .before .before .before .before .before .before .before .before .before .before .before .before .before .before .before .before .before) .buckets-range .1
 
 -- the answer after it
-now-is : (c : tie.After-first-that-fits2)
-    → let e = c .before .before .before .before .before .before .before .before .before .before .before .before .before .before .before .before .before .before .before .before .before .before .before .before .before .before in
+answered : (c : tie.After-first-that-fits)
+    → let e = c .before .before .before .before .before .before .before .before .before .before .before .before .before .before .before .before .before .before .before .before .before .before .before in
     let s = stateIn (p e) (start e .args .saved .now) in
-    c .first-that-fits2 .result ≡ answerOf (p e) (nextState (p e) s (wordsIn (p e) (start e .args .saved .now)) (start e .args .draw))
+    c .first-that-fits .result ≡ answerOf (p e) (nextState (p e) s (wordsIn (p e) (start e .args .saved .now)) (start e .args .draw))
 unfolding eq?
-now-is c =
-    let e = c .before .before .before .before .before .before .before .before .before .before .before .before .before .before .before .before .before .before .before .before .before .before .before .before .before .before in
-    c .first-that-fits2 .ensures (p e) refl refl refl
-    ∙ answer-after (p e) (start e .args .saved .now) (start e .args .draw) (start e .args .lent .now) (good e) (form (c .before .before .before .before .before .before .before .before .before .before .before .before .before .before .before .before .before .before .before .before .before .before .before .before)) _ _
+answered c =
+    let e = c .before .before .before .before .before .before .before .before .before .before .before .before .before .before .before .before .before .before .before .before .before .before .before in
+    c .first-that-fits .ensures (p e) refl refl refl
+    ∙ answer-after (p e) (start e .args .saved .now) (start e .args .draw) (start e .args .lent .now) (good e) (form (c .before .before .before .before .before .before .before .before .before .before .before .before .before .before .before .before .before .before .before .before .before)) _ _
     (c .before .before .before .before .before .before .before .before .take-in .ensures (ready (c .before .before .before .before .before .before .before .before .before))) (c .before .before .before .before .if5 .left) _
-    (add-one _ ∙ ap suc (c .before .before .before .before .before .before .before .before .before .before .before .before .before .before .before .before .before .before .before .before .before .before .read-u32 .ensures .0)) _ refl
+    (add-one _ ∙ ap suc (c .before .before .before .before .before .before .before .before .before .before .before .before .before .before .before .before .before .before .before .read-u32 .ensures .0)) _ refl
 
 answer-number-requires : tie.Need-answer-number-requires
-answer-number-requires c κs = rw (now-is c) (rule-small _ _ (ok (c .before .before .before .before .before .before .before .before .before .before .before .before .before .before .before .before .before .before .before .before .before .before .before .before .before .before) .buckets-range .1))
+answer-number-requires c κs = rw (answered c) (rule-small _ _ (ok (c .before .before .before .before .before .before .before .before .before .before .before .before .before .before .before .before .before .before .before .before .before .before .before) .buckets-range .1))
 
 same-length-2 : tie.Need-same-length-2
 same-length-2 c = search needs
 
 returns-6 : tie.Need-returns-6
 returns-6 c =
-    let e = c .before .before .before .before .before .before .before .before .before .before .before .before .before .before .before .before .before .before .before .before .before .before .before .before .before .before .before in
+    let e = c .before .before .before .before .before .before .before .before .before .before .before .before .before .before .before .before .before .before .before .before .before .before .before .before in
     hands e _ _
-    (hands-answer (p e) _ _ _ (good e) (form (c .before .before .before .before .before .before .before .before .before .before .before .before .before .before .before .before .before .before .before .before .before .before .before .before .before)) _ _ (c .before .before .before .before .before .before .before .before .before .take-in .ensures (ready (c .before .before .before .before .before .before .before .before .before .before))) (c .before .before .before .before .before .if5 .left) _ (now-is (c .before)) _
+    (hands-answer (p e) _ _ _ (good e) (form (c .before .before .before .before .before .before .before .before .before .before .before .before .before .before .before .before .before .before .before .before .before .before)) _ _ (c .before .before .before .before .before .before .before .before .before .take-in .ensures (ready (c .before .before .before .before .before .before .before .before .before .before))) (c .before .before .before .before .before .if5 .left) _ (answered (c .before)) _
     (c .answer-number .ensures))
 
 pub vimorake-draw-spec : {M : Type 1} → statement M
@@ -183,15 +173,13 @@ vimorake-draw-spec =
     returns-2
     returns-3
     read-u32-requires
-    standing-in-requires
-    first-that-fits-requires
-    is-ending-requires
+    has-ended-requires
     returns-4
     take-in-requires
     same-length
     returns-5
     add-first-that-fits
-    first-that-fits-requires-2
+    first-that-fits-requires
     answer-number-requires
     same-length-2
     returns-6)
