@@ -18,7 +18,7 @@ ghost use Rattle.bucket_test.specs.Turn.{recordAt, recordSound, recordSo
 ghost use Rattle.bucket_test.specs.Draw.{stateSound};
 
 // Of any record and any words: they pass refusal 11 after n draws with so many ones, with e = E(n).
-pub fn record_sound(t: Threshold, part: &[u64], e: u64, n: u32, ones: u32) -> bool
+fn record_sound(t: Threshold, part: &[u64], e: u64, n: u32, ones: u32) -> bool
     ensures { λ r. ⌜ r ≡ recordSound e n ones (t .mark) t (now (part .entry)) ⌝ }
 {
     let mark = t.mark;

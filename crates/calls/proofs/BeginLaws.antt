@@ -1,5 +1,5 @@
 -- The form of a beginning, and calls on plan bytes (specs/Calls).
-use mathlib.Core.Path.{_≡_, refl, sym, ap, _∙_}
+use mathlib.Core.Path.{_≡_, refl, sym, ap, subst, _∙_}
 use mathlib.Core.List.{List, [], _∷_, _++_}
 use Prim.Native.Nat.{ℕ, zero, suc, _+_, _*_, _≤_, _<_}
 use native.Mathlib.Omega.{arith}
@@ -25,8 +25,9 @@ use Rattle.bucket_test.proofs.PartLaws.{words-say, join-part}
 use Rattle.bucket_test.proofs.DrawingLaws.{begun-0}
 use Rattle.little.specs.Little.{toLE, putAt}
 use Rattle.stored_plan.specs.Reading.{decoded}
+use Rattle.stored_plan.specs.Inner.{Into}
 use Rattle.stored_plan.specs.declared.Read.{Read}
-use Rattle.saved_test.specs.Form.{massSize, recordOffset, formSize, formLimit, countsBetween, liveCount, massesTo, massBytes, savedSize, header, recordEntries, massEntries}
+use Rattle.saved_test.specs.Form.{massSize, recordOffset, formSize, formLimit, countsBetween, liveCount, massesTo, massBytes, savedSize, savedHeader, recordEntries, massEntries}
 use Rattle.saved_test.proofs.WritingLaws.{form-put}
 use Rattle.calls.specs.Calls.{answerNumber, ownWords, begunOn, drawnOn, calledBegin, calledDraw}
 use Rattle.calls.proofs.PlanRead.{plan-read}
@@ -89,7 +90,7 @@ module _ (p : Plan) (good : planRefusal p ≡ 0) where
 
   pub begins-form : (lent : List ℕ) → savedSize p startState ≤ length lent → (r : ℕ) → r ≡ answerNumber (answerOf p startState) → (b₁ b₂ : List ℕ)
       → b₁ ≡ putAt (recordOffset (p .count)) (joinTo (p .count) (λ i. toLE massSize M)) lent
-      → b₂ ≡ putAt 0 (header p startState ++ recordEntries p startState) b₁ → Begins lent r b₂
+      → b₂ ≡ putAt 0 (savedHeader p startState ++ recordEntries p startState) b₁ → Begins lent r b₂
   unfolding massEntries recordOffset formSize
   begins-form lent h r number b₁ b₂ f g =
       let f′ = f ∙ ap (λ (x : List ℕ). putAt (recordOffset (p .count)) x lent) (sym entries-start) in
@@ -123,13 +124,19 @@ module _ (planBytes : List ℕ) (read : Read) (is : read ≡ decoded planBytes) 
     unfolding calledBegin
     begin-none e r after h = rw (refusal-is, e) (rw is at h)
 
-    module _ (saved : List ℕ) (d : ℕ) where
-      pub draw-some : ¬ (read .refusal ≡ 0) → (read .refusal ≡ calledDraw planBytes saved d lent .number) × (lent ≡ calledDraw planBytes saved d lent .bytes)
-      unfolding calledDraw
-      draw-some n = rw refusal-is (draw-refused (read .refusal) n (decoded planBytes .plan) saved d lent)
+-- a plan that was read into lent tables, as `plan_into` says it
+module _ (planBytes : List ℕ) (r : ℕ) (p : Plan) (is : Into planBytes r p) where
+  pub tables-good : r ≡ 0 → planRefusal p ≡ 0
+  tables-good z = ap planRefusal (is .1 z) ∙ accepted (decoded planBytes .plan) .1 (plan-read planBytes (sym (is .0) ∙ z))
 
-      pub draw-none : read .refusal ≡ 0 → (r : ℕ) (after : List ℕ)
-          → (r ≡ drawnOn 0 (read .plan) saved d lent .number) × (after ≡ drawnOn 0 (read .plan) saved d lent .bytes)
-          → (r ≡ calledDraw planBytes saved d lent .number) × (after ≡ calledDraw planBytes saved d lent .bytes)
-      unfolding calledDraw
-      draw-none e r after h = rw (refusal-is, e) (rw is at h)
+  module _ (saved : List ℕ) (d : ℕ) (lent : List ℕ) where
+    pub draw-some : ¬ (r ≡ 0) → (r ≡ calledDraw planBytes saved d lent .number) × (lent ≡ calledDraw planBytes saved d lent .bytes)
+    unfolding calledDraw
+    draw-some n = rw (← is .0) (draw-refused r n (decoded planBytes .plan) saved d lent)
+
+    pub draw-none : r ≡ 0 → (answer : ℕ) (after : List ℕ)
+        → (answer ≡ drawnOn 0 p saved d lent .number) × (after ≡ drawnOn 0 p saved d lent .bytes)
+        → (answer ≡ calledDraw planBytes saved d lent .number) × (after ≡ calledDraw planBytes saved d lent .bytes)
+    unfolding calledDraw
+    draw-none z answer after h =
+        rw (← is .0, z) (subst (λ (q : Plan). (answer ≡ drawnOn 0 q saved d lent .number) × (after ≡ drawnOn 0 q saved d lent .bytes)) (is .1 z) h)

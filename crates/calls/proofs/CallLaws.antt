@@ -5,19 +5,18 @@ use mathlib.Core.Logic.{_⊎_, inl, inr}
 use mathlib.Core.List.{List, [], _∷_}
 use Prim.Native.Nat.{ℕ, zero, suc, _≤_, _<_}
 use native.Mathlib.Omega.{arith}
-use Rattle.walk.specs.Numbers.{le?, lt?}
+use Rattle.walk.specs.Numbers.{lt?}
 use Rattle.walk.specs.Units.{million, horizonLimit}
 use Rattle.walk.proofs.Tests.{le?-complete, le?-fails}
-use Rattle.plan.specs.Places.{eq?, unless, firstRefusal}
+use Rattle.plan.specs.Places.{eq?, firstRefusal}
 use Rattle.plan.specs.Plan.{countLimit, planRefusal}
 use Rattle.plan.specs.declared.Plan.{Plan}
 use Rattle.plan.proofs.PlaceLaws.{le-or-lt, any-cong, largest-cong, smallest-cong}
-use Rattle.plan.proofs.AcceptedLaws.{accepted}
 use Rattle.bucket_choice.specs.Choice.{chosenBucket}
 use Rattle.bucket_test.specs.Words.{wordsFit}
 use Rattle.bucket_test.specs.Turn.{recordAt}
 use Rattle.bucket_test.specs.Answers.{lowOf, highOf, anyWide, firstThatFits, answerOf, isEnding}
-use Rattle.bucket_test.specs.Draw.{Outcome, drawRefusalOver, drawRefusal, nextState, nextWords, drawn}
+use Rattle.bucket_test.specs.Draw.{Outcome, stateSound, drawRefusalOver, drawRefusal, nextState, nextWords}
 use Rattle.bucket_test.specs.declared.Answer.{Answer}
 use Rattle.bucket_test.specs.declared.State.{State}
 use Rattle.bucket_test.specs.declared.Threshold.{Threshold}
@@ -113,6 +112,10 @@ module _ (p : Plan) (bytes : List ℕ) (d : ℕ) (lent : List ℕ) (good : planR
     pub hands-10 : d ≤ 1 → isEnding (answerOf p s) ≡ true → Hands 10 lent
     unfolding drawRefusalOver
     hands-10 bit e = rw (form, good, fits, le?-complete d 1 bit, e) (refl, refl)
+
+    pub hands-11 : d ≤ 1 → isEnding (answerOf p s) ≡ false → stateSound p s ws ≡ false → Hands 11 lent
+    unfolding drawRefusalOver
+    hands-11 bit on spoiled = rw (form, good, fits, le?-complete d 1 bit, on, spoiled) (refl, refl)
 
     module _ (r : Taken) (after : List ℕ) (t : Took p bytes d lent r after) where
       by-refusal : (q : ℕ) → r .refusal ≡ q → (calledBy q p (outcome p bytes d lent) lent .number ≡ drawnOn 0 p bytes d lent .number)

@@ -1,33 +1,36 @@
 -- The turns of thresholds whose masses are read from saved bytes, one at a time, into the front of a part (specs/Inner).
 use mathlib.Core.Path.{_≡_, refl, sym, ap, _∙_}
 use mathlib.Core.Bool.{false, _||_}
-use mathlib.Core.List.{List, [], _++_}
+use mathlib.Core.List.{List}
 use Prim.Native.Nat.{ℕ, zero, suc, _+_, _*_, _-_, _≤_, _<_, max, min}
 use native.Mathlib.Numerals.{add-one}
 use native.Mathlib.Omega.{arith}
 use lib.IntN.{ℤ}
 use lib.ListN.{length, take, getD}
+use lib.Seq.{length-take-le}
 use Rattle.walk.specs.Numbers.{only, choose}
 use Rattle.walk.specs.Units.{million, wide}
 use Rattle.walk.specs.Spending.{spending}
 use Rattle.walk.specs.Walk.{below}
-use Rattle.walk.specs.Row.{Row, stepRow}
+use Rattle.walk.specs.Row.{Row, upper, stepRow}
 use Rattle.walk.specs.Strings.{Upper, Lower, isOn}
 use Rattle.walk.specs.Record.{firstAbove, rowOf, recordOf, padded}
+use Rattle.walk.specs.Soundness.{Steppable}
 use Rattle.walk.specs.declared.Mark.{Mark}
 use Rattle.walk.specs.declared.Mark.the-variants.{Open, Above, AtMost}
 use Rattle.walk.specs.declared.Walked.{Walked}
 use Rattle.walk.proofs.Boundaries.{above-below}
+use Rattle.walk.proofs.RowSteps.{step-moves}
 use Rattle.plan.specs.Places.{anyTo, largestTo, smallestTo, joinTo}
 use Rattle.plan.proofs.PlaceLists.{over-length, join-length}
 use Rattle.bucket_test.specs.Turn.{wideOpen, walkedOn, turnRecord, turnPart, MayTurn}
 use Rattle.bucket_test.specs.declared.Threshold.{Threshold}
 use Rattle.bucket_test.proofs.AnsweringLaws.{largest-more, smallest-more}
 use Rattle.little.specs.Little.{column, filled, putAt}
-use Rattle.little.proofs.Putting.{put-none, then, put-length, put-apart, put-before}
+use Rattle.little.proofs.Putting.{then, put-length, put-apart, put-before}
 use Rattle.saved_test.specs.Form.{headerSize, recordSize, massSize, recordOffset, formSize, formLimit, countsBetween, liveBy, liveCount, massesTo, recordBytes, massBytes}
 use Rattle.saved_test.specs.Reading.{recordIn, massOffset, partIn}
-use Rattle.saved_test.proofs.Judged.{gap-below, masses-few}
+use Rattle.saved_test.proofs.Judged.{gap-below, gap-live, masses-few}
 use Rattle.saved_test.proofs.BytesBack.{masses-within}
 use Rattle.saved_test.proofs.AlikeLaws.{gap-covers, row-same}
 use Rattle.saved_test.proofs.RoundTrip.{masses-same}
@@ -35,7 +38,7 @@ use Rattle.saved_test.proofs.Sizes.{record-length, masses-length}
 use Rattle.saved_test.proofs.WritingLaws.{masses-next as put-masses}
 use Rattle.saved_test.proofs.ReadingLaws.{part-few, held-inside, held-next, held-front}
 use Rattle.resumed_test.proofs.Simulation.{turn-by}
-use Rattle.calls.specs.Inner.{Seen, newRecord, newPart, newRecordBytes, newMassBytes, newOffset, newSize, newEntries, Turns}
+use Rattle.calls.specs.Inner.{Seen, newRecord, newPart, newRecordBytes, newMassBytes, newSize, newEntries, Turns}
 use Rattle.calls.specs.declared.Standing.{Standing}
 
 -- ---- one threshold, with its masses at the front of the part q, and in the part `part`
@@ -86,6 +89,33 @@ module _ (a e n S : ℕ) (t : Threshold) (part q q′ : List ℕ) where
   front-by (Above u) is same row = rw is
   front-by (AtMost u) is same row = rw is
 
+-- a step leaves at most 769 masses, and at most one more than before
+row-grows : (a e : ℕ) (w : Walked) (part : List ℕ) → Steppable a e w part
+    → let r = stepRow a e (rowOf w part) in
+    (upper r - r .first ≤ wide) × (upper r - r .first ≤ countsBetween (w .lower) (w .upper) + 1)
+unfolding rowOf wide
+row-grows a e w part s =
+    let moves = step-moves a (s .threshold) e (s .half) (rowOf w part) (s .sound) in
+    let held = length-take-le (w .upper - firstAbove (w .lower)) part (omega (arith, s .room)) in
+    (omega (arith, moves .upper-slow, moves .lower-rises, held, s .narrow), omega (arith, moves .upper-slow, moves .lower-rises, held, gap-live w (s .signed)))
+
+live-le : (m : Mark) (r : Row) → liveBy m (recordOf r) ≤ upper r - r .first
+unfolding recordOf
+live-le Open r = omega (arith, gap-below (r .first) (upper r))
+live-le (Above u) r = omega arith
+live-le (AtMost u) r = omega arith
+
+grows-by : (a e n S : ℕ) (t : Threshold) (part : List ℕ) (m : Mark) → t .mark ≡ m → MayTurn a e m t part
+    → let r = turnRecord a e n S m t part in (liveCount r ≤ wide) × (liveCount r ≤ liveCount t + 1)
+unfolding walkedOn
+grows-by a e n S t part Open is may =
+    let r = stepRow a e (rowOf (t .walked) part) in
+    let k = row-grows a e (t .walked) part may in
+    let h = live-le (walkedOn a e n S r .mark) r in
+    rw is (omega (arith, h, k .0), omega (arith, h, k .1))
+grows-by a e n S t part (Above u) is may = rw is (omega arith, omega arith)
+grows-by a e n S t part (AtMost u) is may = rw is (omega arith, omega arith)
+
 -- ---- how records stand, one by one
 
 pub seen-none : (thresholds : List ℕ) (records : ℕ → Threshold) (s : Standing) → s ≡ record { low = 0; high = million; wide = false }
@@ -107,10 +137,10 @@ seen-next thresholds records i s r t is h low high wides = record {
 -- ---- the thresholds that bytes hold
 
 module _ (thresholds allowances : List ℕ) (count delay n ones : ℕ) (bytes : List ℕ) (j : Turns thresholds allowances count delay n ones bytes) where
-  abbrev next : ℕ → Threshold
+  abbrev pub next : ℕ → Threshold
   next = newRecord thresholds allowances count delay n ones bytes
 
-  abbrev parts : ℕ → List ℕ
+  abbrev pub parts : ℕ → List ℕ
   parts = newPart thresholds allowances count delay n ones bytes
 
   abbrev records : ℕ → List ℕ
@@ -119,8 +149,8 @@ module _ (thresholds allowances : List ℕ) (count delay n ones : ℕ) (bytes : 
   abbrev entry : ℕ → List ℕ
   entry = newMassBytes thresholds allowances count delay n ones bytes
 
-  abbrev offset : ℕ → ℕ
-  offset = newOffset thresholds allowances count delay n ones bytes
+  abbrev pub offset : ℕ → ℕ
+  offset i = recordOffset count + massSize * massesTo next i
 
   module _ (i : ℕ) (l : i < count) where
     abbrev held : Threshold
@@ -175,46 +205,42 @@ module _ (thresholds allowances : List ℕ) (count delay n ones : ℕ) (bytes : 
 
   -- ---- where the new masses go
 
-  pub new-first : headerSize + recordSize * count ≡ offset 0
-  unfolding massesTo recordOffset
-  new-first = omega arith
+  grows : (i : ℕ) → i < count → (liveCount (next i) ≤ wide) × (liveCount (next i) ≤ liveCount (recordIn bytes i) + 1)
+  grows i l = grows-by _ _ n ones (recordIn bytes i) (partIn bytes count i) (recordIn bytes i .mark) refl (j .may i l)
 
   pub new-few : (i : ℕ) → i ≤ count → massesTo next i ≤ wide * i
-  new-few i h = masses-few next i (λ k l. j .grows k (omega arith) .0)
+  new-few i h = masses-few next i (λ k l. grows k (omega arith) .0)
 
-  pub new-small : (i : ℕ) → i ≤ count → offset i ≤ formLimit
-  unfolding recordOffset wide
-  new-small i h = omega (arith, j .few, new-few i h)
+  pub new-small : newSize thresholds allowances count delay n ones bytes ≤ formLimit
+  unfolding formSize recordOffset wide
+  new-small = omega (arith, j .few, new-few count (omega arith))
 
   module _ (i : ℕ) (l : i < count) (r : Threshold) (r-is : r ≡ next i) (live : ℕ) (live-is : live ≡ liveCount r) where
     is-live : live ≡ liveCount (next i)
     is-live = live-is ∙ ap (λ (u : Threshold). liveCount u) r-is
 
     pub new-room : live ≤ liveCount (recordIn bytes i) + 1
-    new-room = rw is-live (j .grows i l .1)
+    new-room = rw is-live (grows i l .1)
 
     pub new-live : live ≤ wide
-    new-live = rw is-live (j .grows i l .0)
+    new-live = rw is-live (grows i l .0)
 
     pub new-masses : massesTo next i + live ≡ massesTo next (i + 1)
     unfolding massesTo
     new-masses = rw (add-one i, is-live)
 
     module _ (to : ℕ) (here : to ≡ offset i) where
-      pub new-next : to + massSize * live ≡ offset (i + 1)
-      new-next = omega (arith, new-masses)
-
       pub new-inside : to + massSize * live ≤ newSize thresholds allowances count delay n ones bytes
       unfolding formSize
       new-inside = rw (here, is-live) (omega (arith, masses-within next count i l))
 
       -- the new masses go behind those of the thresholds before, and the record behind theirs
-      pub entries-next : (q : List ℕ) → take (liveCount r) q ≡ take (liveCount r) (parts i) → (b b₁ b₂ b₃ : List ℕ)
-          → b₁ ≡ putAt headerSize (joinTo i records) (putAt (recordOffset count) (joinTo i entry) b) → b₂ ≡ putAt to (massBytes live q) b₁
-          → b₃ ≡ putAt (headerSize + recordSize * i) (recordBytes r) b₂ → newSize thresholds allowances count delay n ones bytes ≤ length b
-          → b₃ ≡ putAt headerSize (joinTo (i + 1) records) (putAt (recordOffset count) (joinTo (i + 1) entry) b)
+      pub entries-next : (q : List ℕ) → take (liveCount r) q ≡ take (liveCount r) (parts i) → (b b₁ b₂ : List ℕ)
+          → b₁ ≡ putAt headerSize (joinTo i records) (putAt (recordOffset count) (joinTo i entry) b)
+          → b₂ ≡ putAt (headerSize + recordSize * i) (recordBytes r) (putAt to (massBytes live q) b₁) → newSize thresholds allowances count delay n ones bytes ≤ length b
+          → b₂ ≡ putAt headerSize (joinTo (i + 1) records) (putAt (recordOffset count) (joinTo (i + 1) entry) b)
       unfolding joinTo formSize recordOffset
-      entries-next q same b b₁ b₂ b₃ f g h long =
+      entries-next q same b b₁ b₂ f h long =
           let before = putAt (recordOffset count) (joinTo i entry) b in
           let after = putAt (recordOffset count) (joinTo (suc i) entry) b in
           let records-long : length (joinTo i records) ≡ recordSize * i = join-length records recordSize i (λ k l. record-length (next k)) in
@@ -227,10 +253,10 @@ module _ (thresholds allowances : List ℕ) (count delay n ones : ℕ) (bytes : 
           let after-long : length after ≡ length b = put-length (recordOffset count) (joinTo (suc i) entry) b (omega (arith, masses-longer)) in
           let put : putAt to (massBytes live q) before ≡ after =
           rw (add-one i) at (put-masses next parts (recordOffset count) i b before (putAt to (massBytes live q) before) refl (rw (here, new)) (omega arith)) in
-          let b₂-is : b₂ ≡ putAt headerSize (joinTo i records) after =
-          g ∙ ap (putAt to (massBytes live q)) f ∙ put-apart headerSize to (joinTo i records) (massBytes live q) before (omega arith) (omega arith)
+          let masses-put : putAt to (massBytes live q) b₁ ≡ putAt headerSize (joinTo i records) after =
+          ap (putAt to (massBytes live q)) f ∙ put-apart headerSize to (joinTo i records) (massBytes live q) before (omega arith) (omega arith)
           ∙ ap (putAt headerSize (joinTo i records)) put in
-          let whole = then headerSize (joinTo i records) (recordBytes r) after b₂ b₃ (headerSize + recordSize * i) b₂-is h (omega arith) (omega arith) in
+          let whole = then headerSize (joinTo i records) (recordBytes r) after (putAt to (massBytes live q) b₁) b₂ (headerSize + recordSize * i) masses-put h (omega arith) (omega arith) in
           rw (add-one i) (rw r-is at whole)
 
   -- at last, one behind the other
@@ -246,7 +272,7 @@ module _ (thresholds allowances : List ℕ) (count delay n ones : ℕ) (bytes : 
   masses-grow : (k : ℕ) → k ≤ count → massesTo next k ≤ massesTo (recordIn bytes) k + k
   unfolding massesTo
   masses-grow zero h = omega arith
-  masses-grow (suc k) h = omega (arith, masses-grow k (omega arith), j .grows k (omega arith) .1)
+  masses-grow (suc k) h = omega (arith, masses-grow k (omega arith), grows k (omega arith) .1)
 
   pub size-grows : newSize thresholds allowances count delay n ones bytes ≤ length bytes + massSize * count
   unfolding formSize

@@ -3,10 +3,10 @@
 use mathlib.Core.Path.{_≡_}
 use mathlib.Core.Bool.{true, false}
 use mathlib.Core.List.{List, [], _∷_, _++_}
-use Prim.Native.Nat.{ℕ, _+_, _*_, _≤_, _<_}
-use lib.ListN.{length, getD}
+use Prim.Native.Nat.{ℕ, _≤_, _<_}
+use lib.ListN.{getD}
 use Rattle.walk.specs.Numbers.{only, choose}
-use Rattle.walk.specs.Units.{million, wide, allowanceLimit, horizonLimit}
+use Rattle.walk.specs.Units.{million, allowanceLimit, horizonLimit}
 use Rattle.walk.specs.Spending.{spending}
 use Rattle.walk.specs.Strings.{Upper, Lower, isOn}
 use Rattle.plan.specs.Places.{firstRefusal, anyTo, largestTo, smallestTo, joinTo}
@@ -14,9 +14,9 @@ use Rattle.plan.specs.Plan.{countLimit, planRefusal}
 use Rattle.plan.specs.declared.Plan.{Plan}
 use Rattle.bucket_test.specs.Turn.{recordAt, wideOpen, turnRecord, turnPart, MayTurn}
 use Rattle.bucket_test.specs.Answers.{answerOf, isEnding}
-use Rattle.bucket_test.specs.Draw.{Outcome, drawRefusal, drawn}
+use Rattle.bucket_test.specs.Draw.{Outcome, stateSound, drawRefusal, drawn}
 use Rattle.bucket_test.specs.declared.Threshold.{Threshold}
-use Rattle.saved_test.specs.Form.{massSize, recordOffset, formSize, liveCount, massesTo, recordBytes, massBytes}
+use Rattle.saved_test.specs.Form.{formSize, liveCount, massesTo, recordBytes, massBytes}
 use Rattle.saved_test.specs.Reading.{recordIn, partIn, stateIn, wordsIn, formFits}
 use Rattle.saved_test.specs.Inner.{RecordsAndMasses}
 use Rattle.calls.specs.Calls.{roomRefusal, calledBy}
@@ -45,10 +45,7 @@ module _ (thresholds allowances : List ℕ) (count delay n ones : ℕ) (bytes : 
   abbrev pub newMassBytes : ℕ → List ℕ
   newMassBytes i = massBytes (liveCount (newRecord i)) (newPart i)
 
-  -- the form after them: where the masses at place i go, its length, and what stands behind its header
-  abbrev pub newOffset : ℕ → ℕ
-  newOffset i = recordOffset count + massSize * massesTo newRecord i
-
+  -- the form after them: its length, and what stands behind its header
   abbrev pub newSize : ℕ
   newSize = formSize count (massesTo newRecord count)
 
@@ -64,33 +61,32 @@ module _ (thresholds allowances : List ℕ) (count delay n ones : ℕ) (bytes : 
     pub form : RecordsAndMasses count bytes
     pub may : (i : ℕ) → i < count
         → MayTurn (getD thresholds i 0) (spending (getD allowances i 0) delay n) (recordIn bytes i .mark) (recordIn bytes i) (partIn bytes count i)
-    -- a fact of such steps: each leaves at most 769 masses, and at most one more than before
-    pub grows : (i : ℕ) → i < count → (liveCount (newRecord i) ≤ wide) × (liveCount (newRecord i) ≤ liveCount (recordIn bytes i) + 1)
 
--- a part of so many words holds the masses of any one of them and one more; so many words are enough for a form with fewer masses in all
+-- a part of so many words holds the masses of any one of them and one more
 abbrev pub PartHoldsOneMore : ℕ → List ℕ → ℕ → Type 0
 PartHoldsOneMore count bytes room = (i : ℕ) → i < count → liveCount (recordIn bytes i) < room
 
+-- words of the shorter parts
 abbrev pub short : ℕ
 short = 32
 
 abbrev pub middle : ℕ
 middle = 128
 
--- a draw that only 11 and 12 can refuse, under an accepted plan with these tables
-pub record Ready (thresholds allowances : List ℕ) (count delay horizon : ℕ) (bytes : List ℕ) (d : ℕ) : Type 0 where
+-- a draw that only 12 can refuse, under an accepted plan with these tables
+pub record Ready (thresholds allowances : List ℕ) (count delay : ℕ) (bytes : List ℕ) (d : ℕ) : Type 0 where
   pub plan : Plan
   pub thresholds-are : plan .thresholds ≡ thresholds
   pub allowances-are : plan .allowances ≡ allowances
   pub count-is : plan .count ≡ count
   pub delay-is : plan .delay ≡ delay
-  pub horizon-is : plan .horizon ≡ horizon
   pub judged : planRefusal plan ≡ 0
   pub form : formFits plan bytes ≡ true
   pub bit : d ≤ 1
   pub goes-on : isEnding (answerOf plan (stateIn plan bytes)) ≡ false
+  pub sound : stateSound plan (stateIn plan bytes) (wordsIn plan bytes) ≡ true
 
--- what becomes of it: refused by 11 or 12, the lent bytes as they were; or the new form in them, and how its records stand
+-- what becomes of it: refused by 12, the lent bytes as they were; or the new form in them, and how its records stand
 module _ (p : Plan) (bytes : List ℕ) (d : ℕ) (lent : List ℕ) where
   abbrev pub outcome : Outcome
   outcome = drawn p (stateIn p bytes) (wordsIn p bytes) d

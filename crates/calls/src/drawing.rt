@@ -1,38 +1,28 @@
-// A draw to the test that saved bytes hold, once plan, form, draw and answer are judged (saved 6).
-ghost use mathlib.Core.Path.{_≡_};
-ghost use Prim.Native.Nat.{_+_, _*_, _<_};
+// A draw to the test that saved bytes hold, once all but the room is judged (saved 6).
+ghost use Prim.Native.Nat.{ℕ, _≤_, _<_};
 ghost use lib.ListN.{length};
-ghost use Rattle.saved_test.specs.Form.{massSize, recordOffset};
+ghost use Rattle.plan.specs.Plan.{countLimit};
+ghost use Rattle.saved_test.specs.Form.{recordOffset, liveCount};
+ghost use Rattle.saved_test.specs.Reading.{recordIn};
 ghost use Rattle.calls.specs.Inner.{PartHoldsOneMore, short, middle, Ready, Took};
 use crate::Taken;
 use crate::turns::has_room;
-use crate::turns::turn_into;
+use crate::turns::turn_through;
 use little::numbers::read_u32;
 use plan::COUNT_LIMIT;
 use saved_test::form::DRAWS_FIELD;
 use saved_test::form::HEADER_SIZE;
-use saved_test::form::MASS_SIZE;
 use saved_test::form::ONES_FIELD;
 use saved_test::form::RECORD_SIZE;
-use saved_test::reading::state_sound_in;
+use saved_test::marks::live_count;
+use saved_test::reading::record_from;
 use saved_test::writing::write_header;
 use walk::WIDE;
 
-// Words of a part for a form with fewer masses in all, in place of 769, so that a short form's call does not set 769 words to zero.
+// Words of a part for thresholds with fewer masses each, in place of 769, so that a call on few masses does not set 769 words to zero.
 const SHORT: usize = 32;
 
 const MIDDLE: usize = 128;
-
-fn refused(r: u32) -> Taken
-    ensures { λ t. ⌜ t .refusal ≡ r ⌝ }
-{
-    Taken {
-        refusal: r,
-        low: 0,
-        high: 0,
-        wide: false,
-    }
-}
 
 // The draw, with a part to walk in.
 fn take_with<'a>(
@@ -40,22 +30,17 @@ fn take_with<'a>(
     allowances: &'a [u64; COUNT_LIMIT],
     count: usize,
     delay: u32,
-    horizon: u32,
     bytes: &[u8],
     d: u32,
     part: &mut [u64],
     lent: &mut [u8],
 ) -> Taken
-    requires { ⌜ Ready (now thresholds) (now allowances) count delay horizon (now bytes) d × PartHoldsOneMore count (now bytes) (length (now part)) ⌝ }
-    ensures { λ r. ⌜ ((j : Ready (now (thresholds .entry)) (now (allowances .entry)) count delay horizon (now (bytes .entry)) d)
+    requires { ⌜ Ready (now thresholds) (now allowances) count delay (now bytes) d × PartHoldsOneMore count (now bytes) (length (now part)) ⌝ }
+    ensures { λ r. ⌜ ((j : Ready (now (thresholds .entry)) (now (allowances .entry)) count delay (now (bytes .entry)) d)
         → Took (j .plan) (now (bytes .entry)) d (now (lent .entry)) r (now (lent .exit))) ⌝ }
 {
-    if !state_sound_in(allowances, count, delay, horizon, bytes, part) {
-        return refused(11);
-    }
     let n = read_u32(bytes, DRAWS_FIELD) + 1;
     let ones = read_u32(bytes, ONES_FIELD) + d;
-    let room = lent.len();
     if !has_room(
         thresholds,
         allowances,
@@ -65,11 +50,16 @@ fn take_with<'a>(
         n,
         ones,
         part,
-        room,
+        lent,
     ) {
-        return refused(12);
+        return Taken {
+            refusal: 12,
+            low: 0,
+            high: 0,
+            wide: false,
+        };
     }
-    let turned = turn_into(
+    let turned = turn_through(
         thresholds,
         allowances,
         count,
@@ -78,6 +68,7 @@ fn take_with<'a>(
         n,
         ones,
         part,
+        true,
         lent,
     );
     write_header(lent, count, turned.masses, n, ones);
@@ -96,13 +87,12 @@ fn take_in_short<'a>(
     allowances: &'a [u64; COUNT_LIMIT],
     count: usize,
     delay: u32,
-    horizon: u32,
     bytes: &[u8],
     d: u32,
     lent: &mut [u8],
 ) -> Taken
-    requires { ⌜ Ready (now thresholds) (now allowances) count delay horizon (now bytes) d × (length (now bytes) < recordOffset count + massSize * short) ⌝ }
-    ensures { λ r. ⌜ ((j : Ready (now (thresholds .entry)) (now (allowances .entry)) count delay horizon (now (bytes .entry)) d)
+    requires { ⌜ Ready (now thresholds) (now allowances) count delay (now bytes) d × PartHoldsOneMore count (now bytes) short ⌝ }
+    ensures { λ r. ⌜ ((j : Ready (now (thresholds .entry)) (now (allowances .entry)) count delay (now (bytes .entry)) d)
         → Took (j .plan) (now (bytes .entry)) d (now (lent .entry)) r (now (lent .exit))) ⌝ }
 {
     let mut part = [0u64; SHORT];
@@ -111,7 +101,6 @@ fn take_in_short<'a>(
         allowances,
         count,
         delay,
-        horizon,
         bytes,
         d,
         &mut part,
@@ -125,13 +114,12 @@ fn take_in_middle<'a>(
     allowances: &'a [u64; COUNT_LIMIT],
     count: usize,
     delay: u32,
-    horizon: u32,
     bytes: &[u8],
     d: u32,
     lent: &mut [u8],
 ) -> Taken
-    requires { ⌜ Ready (now thresholds) (now allowances) count delay horizon (now bytes) d × (length (now bytes) < recordOffset count + massSize * middle) ⌝ }
-    ensures { λ r. ⌜ ((j : Ready (now (thresholds .entry)) (now (allowances .entry)) count delay horizon (now (bytes .entry)) d)
+    requires { ⌜ Ready (now thresholds) (now allowances) count delay (now bytes) d × PartHoldsOneMore count (now bytes) middle ⌝ }
+    ensures { λ r. ⌜ ((j : Ready (now (thresholds .entry)) (now (allowances .entry)) count delay (now (bytes .entry)) d)
         → Took (j .plan) (now (bytes .entry)) d (now (lent .entry)) r (now (lent .exit))) ⌝ }
 {
     let mut part = [0u64; MIDDLE];
@@ -140,7 +128,6 @@ fn take_in_middle<'a>(
         allowances,
         count,
         delay,
-        horizon,
         bytes,
         d,
         &mut part,
@@ -154,13 +141,12 @@ fn take_in_any<'a>(
     allowances: &'a [u64; COUNT_LIMIT],
     count: usize,
     delay: u32,
-    horizon: u32,
     bytes: &[u8],
     d: u32,
     lent: &mut [u8],
 ) -> Taken
-    requires { ⌜ Ready (now thresholds) (now allowances) count delay horizon (now bytes) d ⌝ }
-    ensures { λ r. ⌜ ((j : Ready (now (thresholds .entry)) (now (allowances .entry)) count delay horizon (now (bytes .entry)) d)
+    requires { ⌜ Ready (now thresholds) (now allowances) count delay (now bytes) d ⌝ }
+    ensures { λ r. ⌜ ((j : Ready (now (thresholds .entry)) (now (allowances .entry)) count delay (now (bytes .entry)) d)
         → Took (j .plan) (now (bytes .entry)) d (now (lent .entry)) r (now (lent .exit))) ⌝ }
 {
     let mut part = [0u64; WIDE];
@@ -169,7 +155,6 @@ fn take_in_any<'a>(
         allowances,
         count,
         delay,
-        horizon,
         bytes,
         d,
         &mut part,
@@ -177,54 +162,41 @@ fn take_in_any<'a>(
     )
 }
 
-// .. in the smallest of these that is enough.
+// As many masses as the threshold with the most has; that none has more is all that is asked.
+fn most_masses(bytes: &[u8], count: usize) -> usize
+    requires { ⌜ (count ≤ countLimit) × (recordOffset count ≤ length (now bytes)) ⌝ }
+    ensures { λ r. ⌜ ((i : ℕ) → i < count → liveCount (recordIn (now (bytes .entry)) i) ≤ r) ⌝ }
+{
+    let mut most: usize = 0;
+    for i in 0..count {
+        let live = live_count(record_from(bytes, HEADER_SIZE + RECORD_SIZE * i));
+        if most < live {
+            most = live;
+        }
+    }
+    most
+}
+
+// The draw in the smallest of these parts that is enough.
 pub(crate) fn take_in<'a>(
     thresholds: &'a [u32; COUNT_LIMIT],
     allowances: &'a [u64; COUNT_LIMIT],
     count: usize,
     delay: u32,
-    horizon: u32,
     bytes: &[u8],
     d: u32,
     lent: &mut [u8],
 ) -> Taken
-    requires { ⌜ Ready (now thresholds) (now allowances) count delay horizon (now bytes) d ⌝ }
-    ensures { λ r. ⌜ ((j : Ready (now (thresholds .entry)) (now (allowances .entry)) count delay horizon (now (bytes .entry)) d)
+    requires { ⌜ Ready (now thresholds) (now allowances) count delay (now bytes) d ⌝ }
+    ensures { λ r. ⌜ ((j : Ready (now (thresholds .entry)) (now (allowances .entry)) count delay (now (bytes .entry)) d)
         → Took (j .plan) (now (bytes .entry)) d (now (lent .entry)) r (now (lent .exit))) ⌝ }
 {
-    let at = HEADER_SIZE + RECORD_SIZE * count;
-    if bytes.len() < at + MASS_SIZE * SHORT {
-        return take_in_short(
-            thresholds,
-            allowances,
-            count,
-            delay,
-            horizon,
-            bytes,
-            d,
-            lent,
-        );
+    let most = most_masses(bytes, count);
+    if most < SHORT {
+        return take_in_short(thresholds, allowances, count, delay, bytes, d, lent);
     }
-    if bytes.len() < at + MASS_SIZE * MIDDLE {
-        return take_in_middle(
-            thresholds,
-            allowances,
-            count,
-            delay,
-            horizon,
-            bytes,
-            d,
-            lent,
-        );
+    if most < MIDDLE {
+        return take_in_middle(thresholds, allowances, count, delay, bytes, d, lent);
     }
-    take_in_any(
-        thresholds,
-        allowances,
-        count,
-        delay,
-        horizon,
-        bytes,
-        d,
-        lent,
-    )
+    take_in_any(thresholds, allowances, count, delay, bytes, d, lent)
 }

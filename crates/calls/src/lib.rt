@@ -10,18 +10,26 @@ use beginning::begin_on;
 use bucket_test::answering::first_that_fits;
 use drawing::take_in;
 use little::numbers::read_u32;
+use plan::BUCKET_LIMIT;
+use plan::COUNT_LIMIT;
 use saved_test::form::DRAWS_FIELD;
 use saved_test::reading::form_fits;
+use saved_test::reading::state_sound_in;
 use stands::has_ended;
+use stored_plan::Head;
+use stored_plan::reading::plan_into;
 use stored_plan::reading::read_plan;
 ghost use mathlib.Core.Path.{_≡_};
-ghost use Rattle.calls.specs.Calls.{calledBegin, calledDraw};
+ghost use Rattle.plan.specs.Plan.{planRefusal};
+ghost use Rattle.stored_plan.specs.Inner.{planFrom};
+ghost use Rattle.calls.specs.Calls.{drawnOn, calledBegin, calledDraw};
 
-// How the records of a test stand to the answer rule: the interval, in millionths, and whether an open threshold is wide.
+// How the records of a test stand to the answer rule: the interval, in millionths, and whether an open threshold is wide. The ends stand apart,
+// since a copy of both at once would wait until each is stored.
 pub struct Standing {
-    pub low: u32,
     pub high: u32,
     pub wide: bool,
+    pub low: u32,
 }
 
 // The masses that the turns left, and how the new records stand.
@@ -30,7 +38,7 @@ pub struct Turned {
     pub standing: Standing,
 }
 
-// The refusal, 11 or 12, or 0 and how the new records stand.
+// The refusal, 12, or 0 and how the new records stand.
 pub struct Taken {
     pub refusal: u32,
     pub low: u32,
@@ -53,49 +61,40 @@ pub extern "C" fn vimorake_begin(plan: &[u8], lent: &mut [u8]) -> u32
     begin_on(read.plan, lent)
 }
 
-// Any plan bytes, saved bytes, draw and lent bytes may be handed in.
-#[no_mangle]
-pub extern "C" fn vimorake_draw(plan: &[u8], saved: &[u8], draw: u32, lent: &mut [u8]) -> u32
+// A draw under an accepted plan of these numbers and tables.
+fn draw_on<'a>(
+    head: Head,
+    thresholds: &'a [u32; COUNT_LIMIT],
+    allowances: &'a [u64; COUNT_LIMIT],
+    left: &'a [u32; BUCKET_LIMIT],
+    right: &'a [u32; BUCKET_LIMIT],
+    saved: &[u8],
+    draw: u32,
+    lent: &mut [u8],
+) -> u32
+    requires { ⌜ planRefusal (planFrom head (now thresholds) (now allowances) (now left) (now right)) ≡ 0 ⌝ }
     ensures { λ r. ⌜
-        (r ≡ calledDraw (now (plan .entry)) (now (saved .entry)) draw (now (lent .entry)) .number)
-        × (now (lent .exit) ≡ calledDraw (now (plan .entry)) (now (saved .entry)) draw (now (lent .entry)) .bytes)
+        (r ≡ drawnOn 0 (planFrom head (now (thresholds .entry)) (now (allowances .entry)) (now (left .entry)) (now (right .entry))) (now (saved .entry)) draw (now (lent .entry)) .number)
+        × (now (lent .exit) ≡ drawnOn 0 (planFrom head (now (thresholds .entry)) (now (allowances .entry)) (now (left .entry)) (now (right .entry))) (now (saved .entry)) draw (now (lent .entry)) .bytes)
         ⌝ }
 {
-    let read = read_plan(plan);
-    if read.refusal != 0 {
-        return read.refusal;
-    }
-    let count = read.plan.count as usize;
+    let count = head.count as usize;
     if !form_fits(saved, count) {
         return 15;
     }
     if draw > 1 {
         return 9;
     }
-    let buckets = read.plan.buckets;
-    let horizon = read.plan.horizon;
+    let buckets = head.buckets;
+    let horizon = head.horizon;
     let n = read_u32(saved, DRAWS_FIELD);
-    if has_ended(
-        &read.plan.thresholds,
-        &read.plan.left,
-        &read.plan.right,
-        count,
-        buckets,
-        n == horizon,
-        saved,
-    ) {
+    if has_ended(thresholds, left, right, count, buckets, n == horizon, saved) {
         return 10;
     }
-    let taken = take_in(
-        &read.plan.thresholds,
-        &read.plan.allowances,
-        count,
-        read.plan.delay,
-        horizon,
-        saved,
-        draw,
-        lent,
-    );
+    if !state_sound_in(allowances, count, head.delay, horizon, saved) {
+        return 11;
+    }
+    let taken = take_in(thresholds, allowances, count, head.delay, saved, draw, lent);
     if taken.refusal != 0 {
         return taken.refusal;
     }
@@ -104,9 +103,43 @@ pub extern "C" fn vimorake_draw(plan: &[u8], saved: &[u8], draw: u32, lent: &mut
         taken.high,
         taken.wide,
         n + 1 == horizon,
-        &read.plan.left,
-        &read.plan.right,
+        left,
+        right,
         buckets,
     );
     answer_number(answer)
+}
+
+// Any plan bytes, saved bytes, draw and lent bytes may be handed in.
+#[no_mangle]
+pub extern "C" fn vimorake_draw(plan: &[u8], saved: &[u8], draw: u32, lent: &mut [u8]) -> u32
+    ensures { λ r. ⌜
+        (r ≡ calledDraw (now (plan .entry)) (now (saved .entry)) draw (now (lent .entry)) .number)
+        × (now (lent .exit) ≡ calledDraw (now (plan .entry)) (now (saved .entry)) draw (now (lent .entry)) .bytes)
+        ⌝ }
+{
+    let mut thresholds = [0u32; COUNT_LIMIT];
+    let mut allowances = [0u64; COUNT_LIMIT];
+    let mut left = [0u32; BUCKET_LIMIT];
+    let mut right = [0u32; BUCKET_LIMIT];
+    let head = plan_into(
+        plan,
+        &mut thresholds,
+        &mut allowances,
+        &mut left,
+        &mut right,
+    );
+    if head.refusal != 0 {
+        return head.refusal;
+    }
+    draw_on(
+        head,
+        &thresholds,
+        &allowances,
+        &left,
+        &right,
+        saved,
+        draw,
+        lent,
+    )
 }

@@ -1,13 +1,15 @@
 // The turns at a draw of the thresholds that saved bytes hold (saved 6), one by one: the masses of one are read into a part, walk a step there,
 // and go on into the lent bytes.
 ghost use mathlib.Core.Path.{_≡_};
-ghost use Prim.Native.Nat.{_+_, _*_, _≤_};
+ghost use mathlib.Core.Bool.{true, false};
+ghost use Prim.Native.Nat.{_+_, _*_, _≤_, _<_};
 ghost use lib.ListN.{length};
 ghost use Rattle.walk.specs.Numbers.{le?};
 ghost use Rattle.walk.specs.Record.{rowOf};
+ghost use Rattle.plan.specs.Plan.{countLimit};
 ghost use Rattle.bucket_test.specs.Turn.{turnRecord, turnPart, MayTurn};
 ghost use Rattle.little.specs.Little.{column, filled, putAt};
-ghost use Rattle.saved_test.specs.Form.{headerSize, massSize, liveCount, massesTo};
+ghost use Rattle.saved_test.specs.Form.{headerSize, recordSize, massSize, liveCount, massesTo, recordBytes, massBytes};
 ghost use Rattle.calls.specs.Inner.{Seen, Turns, PartHoldsOneMore, newRecord, newSize, newEntries};
 use crate::Turned;
 use crate::stands::seen;
@@ -48,8 +50,33 @@ fn turn_at(
     turn_front(t, part, a, e, n, ones)
 }
 
-// The length of the form after them.
-fn size_after<'a>(
+// Its new masses and its record, at place i, into the lent bytes, where `writes` says so.
+fn put_turned(
+    writes: bool,
+    lent: &mut [u8],
+    to: usize,
+    live: usize,
+    part: &[u64],
+    i: usize,
+    t: Threshold,
+)
+    requires { ⌜ (i < countLimit)
+        × (writes ≡ true → (live ≤ length (now part)) × (to + massSize * live ≤ length (now lent)) × (headerSize + recordSize * i + recordSize ≤ length (now lent))) ⌝ }
+    ensures { λ _. ⌜
+        (writes ≡ true → now (lent .exit) ≡ putAt (headerSize + recordSize * i) (recordBytes t) (putAt to (massBytes live (now (part .entry))) (now (lent .entry))))
+        × (writes ≡ false → now (lent .exit) ≡ now (lent .entry))
+        ⌝ }
+{
+    if !writes {
+        return;
+    }
+    write_part(lent, to, live, part);
+    write_record(lent, HEADER_SIZE + RECORD_SIZE * i, t);
+}
+
+// The turns of all: how many masses they leave, and how the new records stand. Where `writes` says so, the new records and masses go into the
+// lent bytes, behind the place of the header; else these stay as they are.
+pub(crate) fn turn_through<'a>(
     thresholds: &'a [u32; COUNT_LIMIT],
     allowances: &'a [u64; COUNT_LIMIT],
     count: usize,
@@ -58,23 +85,38 @@ fn size_after<'a>(
     n: u32,
     ones: u32,
     part: &mut [u64],
-) -> usize
-    requires { ⌜ Turns (now thresholds) (now allowances) count delay n ones (now bytes) × PartHoldsOneMore count (now bytes) (length (now part)) ⌝ }
-    ensures { λ r. ⌜ r ≡ newSize (now (thresholds .entry)) (now (allowances .entry)) count delay n ones (now (bytes .entry)) ⌝ }
+    writes: bool,
+    lent: &mut [u8],
+) -> Turned
+    requires { ⌜ Turns (now thresholds) (now allowances) count delay n ones (now bytes) × PartHoldsOneMore count (now bytes) (length (now part))
+        × (writes ≡ true → newSize (now thresholds) (now allowances) count delay n ones (now bytes) ≤ length (now lent)) ⌝ }
+    ensures { λ r. ⌜
+        (r .masses ≡ massesTo (newRecord (now (thresholds .entry)) (now (allowances .entry)) count delay n ones (now (bytes .entry))) count)
+        × Seen (now (thresholds .entry)) count (newRecord (now (thresholds .entry)) (now (allowances .entry)) count delay n ones (now (bytes .entry))) (r .standing)
+        × (writes ≡ true → now (lent .exit)
+        ≡ putAt headerSize (newEntries (now (thresholds .entry)) (now (allowances .entry)) count delay n ones (now (bytes .entry))) (now (lent .entry)))
+        × (writes ≡ false → now (lent .exit) ≡ now (lent .entry))
+        ⌝ }
 {
-    let mut at = HEADER_SIZE + RECORD_SIZE * count;
-    let mut size = at;
+    let front = HEADER_SIZE + RECORD_SIZE * count;
+    let mut at = front;
+    let mut masses: usize = 0;
+    let mut standing = unseen();
     for i in 0..count {
         let t = record_from(bytes, HEADER_SIZE + RECORD_SIZE * i);
         let e = spending_at(allowances[i], delay, n);
         let next = turn_at(bytes, at, t, thresholds[i], e, n, ones, part);
-        size += MASS_SIZE * live_count(next);
+        let live = live_count(next);
+        let to = front + MASS_SIZE * masses;
+        put_turned(writes, lent, to, live, part, i, next);
+        standing = seen(standing, next, thresholds[i]);
+        masses += live;
         at += MASS_SIZE * live_count(t);
     }
-    size
+    Turned { masses, standing }
 }
 
-// Refusal 12: whether there is room for that form. Since no threshold gains more than one mass, most calls need not count them.
+// Refusal 12: whether there is room for the new form. Since no threshold gains more than one mass, most calls need not count them.
 pub(crate) fn has_room<'a>(
     thresholds: &'a [u32; COUNT_LIMIT],
     allowances: &'a [u64; COUNT_LIMIT],
@@ -84,53 +126,28 @@ pub(crate) fn has_room<'a>(
     n: u32,
     ones: u32,
     part: &mut [u64],
-    room: usize,
+    lent: &mut [u8],
 ) -> bool
     requires { ⌜ Turns (now thresholds) (now allowances) count delay n ones (now bytes) × PartHoldsOneMore count (now bytes) (length (now part)) ⌝ }
-    ensures { λ r. ⌜ r ≡ le? (newSize (now (thresholds .entry)) (now (allowances .entry)) count delay n ones (now (bytes .entry))) room ⌝ }
-{
-    if bytes.len() + MASS_SIZE * count <= room {
-        return true;
-    }
-    size_after(thresholds, allowances, count, delay, bytes, n, ones, part) <= room
-}
-
-// The new records and masses into the lent bytes, behind the place of the header.
-pub(crate) fn turn_into<'a>(
-    thresholds: &'a [u32; COUNT_LIMIT],
-    allowances: &'a [u64; COUNT_LIMIT],
-    count: usize,
-    delay: u32,
-    bytes: &[u8],
-    n: u32,
-    ones: u32,
-    part: &mut [u64],
-    lent: &mut [u8],
-) -> Turned
-    requires { ⌜ Turns (now thresholds) (now allowances) count delay n ones (now bytes) × PartHoldsOneMore count (now bytes) (length (now part))
-        × (newSize (now thresholds) (now allowances) count delay n ones (now bytes) ≤ length (now lent)) ⌝ }
     ensures { λ r. ⌜
-        (r .masses ≡ massesTo (newRecord (now (thresholds .entry)) (now (allowances .entry)) count delay n ones (now (bytes .entry))) count)
-        × Seen (now (thresholds .entry)) count (newRecord (now (thresholds .entry)) (now (allowances .entry)) count delay n ones (now (bytes .entry))) (r .standing)
-        × (now (lent .exit)
-        ≡ putAt headerSize (newEntries (now (thresholds .entry)) (now (allowances .entry)) count delay n ones (now (bytes .entry))) (now (lent .entry)))
+        (r ≡ le? (newSize (now (thresholds .entry)) (now (allowances .entry)) count delay n ones (now (bytes .entry))) (length (now (lent .entry))))
+        × (now (lent .exit) ≡ now (lent .entry))
         ⌝ }
 {
-    let mut at = HEADER_SIZE + RECORD_SIZE * count;
-    let mut to = at;
-    let mut masses: usize = 0;
-    let mut standing = unseen();
-    for i in 0..count {
-        let t = record_from(bytes, HEADER_SIZE + RECORD_SIZE * i);
-        let e = spending_at(allowances[i], delay, n);
-        let next = turn_at(bytes, at, t, thresholds[i], e, n, ones, part);
-        let live = live_count(next);
-        write_part(lent, to, live, part);
-        write_record(lent, HEADER_SIZE + RECORD_SIZE * i, next);
-        standing = seen(standing, next, thresholds[i]);
-        masses += live;
-        at += MASS_SIZE * live_count(t);
-        to += MASS_SIZE * live;
+    if bytes.len() + MASS_SIZE * count <= lent.len() {
+        return true;
     }
-    Turned { masses, standing }
+    let counted = turn_through(
+        thresholds,
+        allowances,
+        count,
+        delay,
+        bytes,
+        n,
+        ones,
+        part,
+        false,
+        lent,
+    );
+    HEADER_SIZE + RECORD_SIZE * count + MASS_SIZE * counted.masses <= lent.len()
 }

@@ -1,13 +1,13 @@
 -- Tables that are filled up to a count (specs/Little, filled).
 use mathlib.Core.Path.{_≡_, refl, ap, _∙_}
 use mathlib.Core.List.{List, [], _∷_, _++_}
-use Prim.Native.Nat.{ℕ, zero, suc, _+_, _≤_, _<_}
+use Prim.Native.Nat.{ℕ, zero, suc, _+_, _*_, _≤_, _<_}
 use native.Mathlib.Numerals.{add-one}
 use native.Mathlib.Omega.{arith}
 use lib.ListN.{length, take, replicate, set, getD, length-replicate, length-set}
 use Rattle.plan.specs.Places.{overTo}
 use Rattle.plan.proofs.PlaceLists.{over-length, over-get, over-cong, over-put}
-use Rattle.little.specs.Little.{filled}
+use Rattle.little.specs.Little.{field, column, filled}
 
 -- what a loop has filled when it comes to place i, of `count` places to fill
 module _ (count : ℕ) (f : ℕ → ℕ) (table₀ : List ℕ) where
@@ -24,6 +24,24 @@ module _ (count : ℕ) (f : ℕ → ℕ) (table₀ : List ℕ) where
 
   pub fill-all : (i : ℕ) (table : List ℕ) → FilledTo i table → count ≤ i → table ≡ filled count f table₀
   fill-all i table h l = let n : i ≡ count = omega arith in rw (← n) (h .2)
+
+-- two tables, filled from entries of two numbers, at an offset and at each stride from there on: the second number stands `second` bytes behind the first
+module _ (count m n at second stride : ℕ) (bytes xs₀ ys₀ : List ℕ) where
+  abbrev pub BothTo : ℕ → List ℕ → List ℕ → Type 0
+  BothTo i xs ys = FilledTo count (column m at stride bytes) xs₀ i xs × FilledTo count (column n (at + second) stride bytes) ys₀ i ys
+
+  pub both-none : BothTo 0 xs₀ ys₀
+  both-none = (fill-none count _ xs₀, fill-none count _ ys₀)
+
+  pub both-next : (i : ℕ) (xs ys : List ℕ) → BothTo i xs ys → i < count → (v w : ℕ) → v ≡ field m (at + stride * i) bytes
+      → w ≡ field n (at + stride * i + second) bytes → BothTo (i + 1) (set xs i v) (set ys i w)
+  both-next i xs ys h l v w e f =
+      let there : at + stride * i + second ≡ at + second + stride * i = omega arith in
+      (fill-next count _ xs₀ i xs (h .0) l v e, fill-next count _ ys₀ i ys (h .1) l w (f ∙ ap (λ (k : ℕ). field n k bytes) there))
+
+  pub both-all : (i : ℕ) (xs ys : List ℕ) → BothTo i xs ys → count ≤ i
+      → (xs ≡ filled count (column m at stride bytes) xs₀) × (ys ≡ filled count (column n (at + second) stride bytes) ys₀)
+  both-all i xs ys h l = (fill-all count _ xs₀ i xs (h .0) l, fill-all count _ ys₀ i ys (h .1) l)
 
 -- only the counted places matter
 pub filled-cong : (count : ℕ) (f g : ℕ → ℕ) (table : List ℕ) → ((i : ℕ) → i < count → f i ≡ g i) → filled count f table ≡ filled count g table

@@ -1,9 +1,11 @@
 // The plan's rules: refusals 1, 2, 14, 3, 4, 5, 6 in this order, each over all entries before the next (rules 1.4, 8.2).
 ghost use mathlib.Core.Path.{_≡_};
+ghost use mathlib.Core.List.{[], _∷_};
 ghost use Prim.Native.Nat.{ℕ, suc, _≤_, _<_};
 ghost use lib.ListN.{length, getD};
-ghost use Rattle.plan.specs.Places.{eq?, within, allTo, anyTo};
-ghost use Rattle.plan.specs.Plan.{countLimit, bucketLimit, countsFit, leftAt, rightAt, rule2, rule14, rule3, rule4, permitted, bucketFits, rule5, coveredAbove, planRefusal};
+ghost use Rattle.plan.specs.Places.{eq?, within, allTo, anyTo, unless, firstRefusal};
+ghost use Rattle.plan.specs.Plan.{countLimit, bucketLimit, countsFit, leftAt, rightAt, rule2, rule14, rule3, rule4, permitted, bucketFits, rule5, coveredAbove, rule6, planRefusal};
+ghost use Rattle.plan.specs.Tables.{planWith};
 use crate::BUCKET_LIMIT;
 use crate::COUNT_LIMIT;
 use crate::DELAY_LIMIT;
@@ -197,41 +199,76 @@ fn right_ends_covered<'a>(
     true
 }
 
+// Rules 5 and 6 of a plan with the first `count` of these thresholds, of at most ten, and the first b of these buckets, of at most sixteen: the
+// first that is broken, 0 for none. Judged after rule 1.
+fn buckets_refusal<'a>(
+    ts: &'a [u32; COUNT_LIMIT],
+    count: usize,
+    ls: &'a [u32; BUCKET_LIMIT],
+    rs: &'a [u32; BUCKET_LIMIT],
+    b: usize,
+) -> u32
+    requires { ⌜ (count ≤ countLimit) × (b ≤ bucketLimit) ⌝ }
+    ensures { λ r. ⌜ ((p : Plan) → p .count ≡ count → p .thresholds ≡ now (ts .entry) → p .buckets ≡ b → p .left ≡ now (ls .entry) → p .right ≡ now (rs .entry)
+        → r ≡ firstRefusal (unless (rule5 p) 5 ∷ unless (rule6 p) 6 ∷ [])) ⌝ }
+{
+    if !buckets_fit(ts, count, ls, rs, b) {
+        return 5;
+    }
+    // Rule 6: some bucket begins at 0, and past it nothing is left out.
+    if !is_among(ls, b, 0) {
+        return 6;
+    }
+    if !right_ends_covered(ls, rs, b) {
+        return 6;
+    }
+    0
+}
+
+// The refusal of a plan of these numbers and tables, 0 for an accepted one: any may be handed in.
+pub fn tables_refusal<'a>(
+    count: u32,
+    buckets: u32,
+    delay: u32,
+    horizon: u32,
+    thresholds: &'a [u32; COUNT_LIMIT],
+    allowances: &'a [u64; COUNT_LIMIT],
+    left: &'a [u32; BUCKET_LIMIT],
+    right: &'a [u32; BUCKET_LIMIT],
+) -> u32
+    ensures { λ r. ⌜ r ≡ planRefusal (planWith count buckets delay horizon (now (thresholds .entry)) (now (allowances .entry)) (now (left .entry)) (now (right .entry))) ⌝ }
+{
+    if !counts_fit(count, buckets) {
+        return 1;
+    }
+    let k = count as usize;
+    if !thresholds_rise(thresholds, k) {
+        return 2;
+    }
+    if !thresholds_apart(thresholds, k) {
+        return 14;
+    }
+    if !allowances_fit(allowances, k) {
+        return 3;
+    }
+    if !times_fit(delay, horizon) {
+        return 4;
+    }
+    buckets_refusal(thresholds, k, left, right, buckets as usize)
+}
+
 // The refusal of a plan, 0 for an accepted one: any plan may be handed in.
 pub fn plan_refusal(p: Plan) -> u32
     ensures { λ r. ⌜ r ≡ planRefusal p ⌝ }
 {
-    if !counts_fit(p.count, p.buckets) {
-        return 1;
-    }
-    if !thresholds_rise(&p.thresholds, p.count as usize) {
-        return 2;
-    }
-    if !thresholds_apart(&p.thresholds, p.count as usize) {
-        return 14;
-    }
-    if !allowances_fit(&p.allowances, p.count as usize) {
-        return 3;
-    }
-    if !times_fit(p.delay, p.horizon) {
-        return 4;
-    }
-    if !buckets_fit(
+    tables_refusal(
+        p.count,
+        p.buckets,
+        p.delay,
+        p.horizon,
         &p.thresholds,
-        p.count as usize,
+        &p.allowances,
         &p.left,
         &p.right,
-        p.buckets as usize,
-    ) {
-        return 5;
-    }
-    // Rule 6: some bucket begins at 0, and past it nothing is left out.
-    let b = p.buckets as usize;
-    if !is_among(&p.left, b, 0) {
-        return 6;
-    }
-    if !right_ends_covered(&p.left, &p.right, b) {
-        return 6;
-    }
-    0
+    )
 }

@@ -17,8 +17,8 @@ drawnAfter p o [] = o
 drawnAfter p o (d ∷ ds) = drawn p (drawnAfter p o ds .state) (drawnAfter p o ds .words) d
 
 -- a test as it stands
-abbrev pub standing : Plan → State → List ℕ → Outcome
-standing p s words = record { answer = answerOf p s; state = s; words = words }
+abbrev pub asItStands : Plan → State → List ℕ → Outcome
+asItStands p s words = record { answer = answerOf p s; state = s; words = words }
 
 -- two outcomes: the same answer, and tests that are alike
 pub record AlikeAfter (p : Plan) (o o′ : Outcome) : Type 0 where
@@ -33,5 +33,5 @@ Simulation = (p : Plan) (o o′ : Outcome) → AlikeAfter p o o′ → (ds : Lis
 -- that a writing accepts, carried or not, and every list of draws
 abbrev pub EverAfter : Type 0
 EverAfter = (p : Plan) (s : State) (words : List ℕ) → Savable p s words → (ds : List ℕ)
-    → AlikeAfter p (drawnAfter p (standing p s words) ds)
-    (drawnAfter p (standing p (stateIn p (savedForm p s words)) (wordsIn p (savedForm p s words))) ds)
+    → AlikeAfter p (drawnAfter p (asItStands p s words) ds)
+    (drawnAfter p (asItStands p (stateIn p (savedForm p s words)) (wordsIn p (savedForm p s words))) ds)

@@ -23,7 +23,7 @@ use Rattle.little.specs.Little.{toLE, fromLE, field, column, Bytes}
 use Rattle.little.specs.Little.{filled}
 use Rattle.little.proofs.LittleLaws.{to-field}
 use Rattle.little.proofs.FilledLaws.{filled-get}
-use Rattle.saved_test.specs.Form.{headerSize, recordSize, massSize, recordOffset, formSize, liveBy, liveCount, massesTo, markCode, markStep, recordBytes, massBytes, savedMasses, header, recordEntries, massEntries, savedForm}
+use Rattle.saved_test.specs.Form.{headerSize, recordSize, massSize, recordOffset, formSize, liveBy, liveCount, massesTo, markCode, markStep, recordBytes, massBytes, savedMasses, header, savedHeader, recordEntries, massEntries, savedForm}
 use Rattle.saved_test.specs.Reading.{markOf, recordFrom, recordIn, massOffset, partIn, stateIn, wordsIn, massesIn}
 use Rattle.saved_test.specs.Refusals.{codeIn, stepIn, betweenIn, FittingRecord, Fitting}
 use Rattle.saved_test.specs.RoundTrip.{Typed, BytesBack}
@@ -173,7 +173,7 @@ module _ (p : Plan) (bytes : List ℕ) (each : Bytes bytes) (ok : Accepted p) (f
   unfolding stateIn
   n-in = (refl, refl)
 
-  header-part : header p (stateIn p bytes) ≡ piece 0 headerSize
+  header-part : savedHeader p (stateIn p bytes) ≡ piece 0 headerSize
   unfolding header
   header-part =
       rw (

@@ -20,7 +20,7 @@ use Rattle.bucket_test.specs.declared.State.{State}
 use Rattle.little.specs.Little.{toLE, field}
 use Rattle.little.proofs.LittleLaws.{to-length, field-right, field-next, field-here, field-last}
 use Rattle.little.proofs.EntryLaws.{join-field}
-use Rattle.saved_test.specs.Form.{headerSize, recordSize, massSize, recordOffset, liveCount, massesTo, markCode, markStep, recordBytes, massBytes, savedMasses, savedSize, header, recordEntries, massEntries, savedForm}
+use Rattle.saved_test.specs.Form.{headerSize, recordSize, massSize, recordOffset, liveCount, massesTo, markCode, markStep, recordBytes, massBytes, savedMasses, savedSize, header, savedHeader, recordEntries, massEntries, savedForm}
 use Rattle.saved_test.specs.RoundTrip.{Typed}
 use Rattle.saved_test.specs.Reading.{markOf, recordFrom}
 use Rattle.saved_test.proofs.Sizes.{record-length, mass-length, masses-length, join-field-at, header-length, front-length}
@@ -138,7 +138,7 @@ module _ (p : Plan) (s : State) (words : List ℕ) where
   in-record i l width o h =
       let z : headerSize + recordSize * i + o ≡ headerSize + (recordSize * i + o) = omega arith in
       rw z
-      (field-right width (recordSize * i + o) (header p s) (recordEntries p s ++ massEntries p s words) headerSize (header-length p s)
+      (field-right width (recordSize * i + o) (savedHeader p s) (recordEntries p s ++ massEntries p s words) headerSize (header-length p s)
       ∙ join-field _ recordSize (λ i. record-length (recordAt s i)) (p .count) (massEntries p s words) i width o l h)
 
   -- mass j of the threshold at place i
@@ -149,8 +149,8 @@ module _ (p : Plan) (s : State) (words : List ℕ) where
       → field massSize (recordOffset (p .count) + (length (joinTo i masses-of) + o)) form ≡ field massSize o (masses-of i)
   unfolding savedForm massEntries masses-of
   in-masses i l o h =
-      rw (← append-assoc (header p s) (recordEntries p s) (massEntries p s words))
-      (field-right massSize (length (joinTo i masses-of) + o) (header p s ++ recordEntries p s) (massEntries p s words) (recordOffset (p .count)) (front-length p s)
+      rw (← append-assoc (savedHeader p s) (recordEntries p s) (massEntries p s words))
+      (field-right massSize (length (joinTo i masses-of) + o) (savedHeader p s ++ recordEntries p s) (massEntries p s words) (recordOffset (p .count)) (front-length p s)
       ∙ rw append-nil at (join-field-at masses-of (p .count) [] i massSize o l h))
 
   pub in-mass : (i : ℕ) → i < p .count → (j : ℕ) → j < liveCount (recordAt s i) → getD (partAt i words) j 0 < 256 ^ 8

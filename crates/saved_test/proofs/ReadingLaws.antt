@@ -1,14 +1,19 @@
 -- What the code of src/reading.rt leaves to do, in plain variables.
 use mathlib.Core.Path.{_≡_, refl, sym, ap, _∙_}
 use mathlib.Core.Logic.{_↔_}
-use mathlib.Core.List.{List, [], _∷_, _++_, append-assoc}
+use mathlib.Core.List.{List, [], _∷_, _++_}
 use Prim.Native.Nat.{ℕ, zero, suc, _-_, _+_, _*_, _^_, _≤_, _<_}
 use native.Mathlib.Numerals.{add-one}
 use native.Mathlib.Omega.{arith}
 use mathlib.Core.Bool.{Bool, true, false, _&&_}
-use lib.ListN.{length, take, drop, set, getD, replicate, length-replicate, replicate-append-replicate}
-use lib.Seq.{drop-cons, set-at, take-suc, length-take-le}
-use Rattle.walk.specs.Units.{wide}
+use lib.ListN.{length, take, replicate, length-replicate, replicate-append-replicate}
+use lib.Seq.{length-take-le}
+use Rattle.walk.specs.Numbers.{le?, sum, allUpTo}
+use Rattle.walk.specs.Units.{M, wide, massLimit}
+use Rattle.walk.specs.Record.{firstAbove, rowOf}
+use Rattle.walk.specs.Soundness.{boundariesSound, isSound}
+use Rattle.walk.specs.declared.Walked.{Walked}
+use Rattle.walk.proofs.SoundnessLaws.{boundaries-say}
 use Rattle.walk.proofs.Tests.{and-true, le?-complete, le?-fails}
 use lib.Dec.{eqb}
 use lib.IntN.{ℤ}
@@ -29,10 +34,10 @@ use Rattle.bucket_test.specs.Words.{wordsFit}
 use Rattle.bucket_test.specs.Turn.{recordAt, recordSound, recordSoundAt}
 use Rattle.bucket_test.specs.Draw.{stateSound, noState}
 use Rattle.saved_test.specs.declared.Loaded.{Loaded}
-use Rattle.saved_test.specs.Form.{drawsField, onesField, massSize, recordOffset, formSize, liveCount, massesTo}
+use Rattle.saved_test.specs.Form.{drawsField, onesField, massSize, recordOffset, formSize, countsBetween, liveCount, massesTo}
 use Rattle.saved_test.specs.Inner.{RecordsAndMasses}
 use Rattle.saved_test.specs.Reading.{markOf, recordFrom, recordIn, recordFits, massOffset, partIn, massesIn, headerFits, formFits, stateIn, wordsIn, readRefusal, loaded, wordsAfter}
-use Rattle.saved_test.proofs.AlikeLaws.{sound-by}
+use Rattle.saved_test.proofs.Judged.{gap-live}
 use Rattle.saved_test.proofs.HeldLaws.{record-held, part-held}
 use Rattle.saved_test.proofs.Refusals.{record-says, form-says}
 use Rattle.saved_test.proofs.BytesBack.{few-fit, masses-within}
@@ -58,16 +63,6 @@ module _ {r v x : ℕ} (e : r ≡ v) where
 pub as-read : {r v : ℕ} → r ≡ v → (x : ℕ) → eqb r x ≡ eq? v x
 unfolding eq?
 as-read e x = ap (λ (y : ℕ). eqb y x) e
-
--- a copy of so many words
-pub copy-more : (d s : List ℕ) (i : ℕ) → i < length d → i < length s → set (take i s ++ drop i d) i (getD s i 0) ≡ take (i + 1) s ++ drop (i + 1) d
-copy-more d s i h k =
-    rw (
-      drop-cons d i 0 h,
-      set-at (take i s) (getD d i 0) (drop (suc i) d) (getD s i 0) i (length-take-le i s (omega arith)),
-      add-one i,
-      take-suc s i 0 k,
-    ) (sym (append-assoc (take i s) (getD s i 0 ∷ []) (drop (suc i) d)))
 
 -- ---- refusal 15, test by test
 
@@ -188,6 +183,20 @@ form-judged p bytes m =
 
 -- ---- refusal 11, part by part
 
+-- an open record by its boundaries, then by its masses
+module _ (e n s : ℕ) (w : Walked) where
+  pub apart-unsound : boundariesSound e n s w ≡ false → (words : List ℕ) → false ≡ isSound e n s w words
+  unfolding isSound
+  apart-unsound f words = rw f
+
+  pub masses-decide : boundariesSound e n s w ≡ true → (count : ℕ) → count ≡ countsBetween (w .lower) (w .upper) → (f : ℕ → ℕ) (table : List ℕ) (r : Bool)
+      → r ≡ (allUpTo massLimit (take count (filled count f table)) && le? M (sum (take count (filled count f table)) + w .over + w .under))
+      → r ≡ isSound e n s w (filled (countsBetween (w .lower) (w .upper)) f table)
+  unfolding isSound rowOf
+  masses-decide passed count is f table r h =
+      let live : count ≡ w .upper - firstAbove (w .lower) = is ∙ gap-live w (boundaries-say e n s w passed .signed) in
+      rw (passed, ← is, ← live) h
+
 -- one threshold, with n masses from an offset on
 module _ (bytes : List ℕ) (count : ℕ) (form : RecordsAndMasses count bytes) (i : ℕ) (l : i < count) (n at : ℕ) (live : n ≡ liveCount (recordIn bytes i))
     (here : at ≡ massOffset bytes count i) where
@@ -208,12 +217,11 @@ module _ (bytes : List ℕ) (count : ℕ) (form : RecordsAndMasses count bytes) 
       ∙ filled-take n f q₀ (replicate wide 0) room (omega (arith, held-few, length-replicate {A = ℕ} wide 0))
       ∙ ap (take n) (part-made bytes count i n at (filled n f (replicate wide 0)) live here refl)
 
-  pub held-sound : (t : Threshold) → t ≡ recordIn bytes i → (q q₀ : List ℕ) → q ≡ filled n (column massSize at massSize bytes) q₀ → n ≤ length q₀
-      → (e draws ones : ℕ) → recordSound e draws ones (t .mark) t q
+  pub held-sound : (t : Threshold) → t ≡ recordIn bytes i → (e draws ones : ℕ)
+      → recordSound e draws ones (t .mark) t (filled (liveCount t) (column massSize at massSize bytes) (replicate wide 0))
       ≡ recordSound e draws ones (recordIn bytes i .mark) (recordIn bytes i) (partIn bytes count i)
-  held-sound t is q q₀ f room e draws ones =
-      ap (λ (u : Threshold). recordSound e draws ones (u .mark) u q) is
-      ∙ sound-by (recordIn bytes i) (partIn bytes count i) q e draws ones (recordIn bytes i .mark) (rw live at (held-front q q₀ f room))
+  held-sound t is e draws ones =
+      rw is (ap (recordSound e draws ones (recordIn bytes i .mark) (recordIn bytes i)) (part-made bytes count i _ at _ refl here refl))
 
 -- what refusal 11 judges of each threshold of a plan
 pub sound-held : (p : Plan) (bytes : List ℕ) (n ones : ℕ) (few : p .count ≤ countLimit) (i : ℕ) (l : i < p .count)

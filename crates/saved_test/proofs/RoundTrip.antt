@@ -15,7 +15,7 @@ use Rattle.bucket_test.specs.Turn.{recordAt}
 use Rattle.bucket_test.specs.Draw.{noState}
 use Rattle.bucket_test.specs.declared.State.{State}
 use Rattle.little.specs.Little.{toLE}
-use Rattle.saved_test.specs.Form.{massSize, liveCount, recordBytes, massBytes, savedSize, header, recordEntries, massEntries, savedForm}
+use Rattle.saved_test.specs.Form.{massSize, liveCount, recordBytes, massBytes, savedSize, header, savedHeader, recordEntries, massEntries, savedForm}
 use Rattle.saved_test.specs.Writing.{saveRefusal, writeRefusal, savedBy, bytesBy, saved, bytesAfter}
 use Rattle.saved_test.specs.Reading.{stateIn, wordsIn, readRefusal, loadedBy, wordsBy, loaded, wordsAfter}
 use Rattle.saved_test.specs.Alike.{Alike}
@@ -124,7 +124,7 @@ masses-same count part part′ e =
     join-cong count _ _ (λ j l. ap (toLE massSize) (sym (getD-take count part′ j 0 l) ∙ ap (λ (xs : List ℕ). getD xs j 0) e ∙ getD-take count part j 0 l))
 
 module _ (p : Plan) (s : State) (words : List ℕ) (s′ : State) (words′ : List ℕ) (h : Alike p s words s′ words′) where
-  header-same : header p s′ ≡ header p s
+  header-same : savedHeader p s′ ≡ savedHeader p s
   unfolding header
   header-same = rw (masses-cong (recordAt s′) (recordAt s) (p .count) (h .record-same), h .n-same, h .ones-same)
 

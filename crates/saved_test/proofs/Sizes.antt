@@ -15,7 +15,7 @@ use Rattle.bucket_test.specs.declared.State.{State}
 use Rattle.plan.proofs.PlaceLists.{join-length}
 use Rattle.little.specs.Little.{field}
 use Rattle.little.proofs.LittleLaws.{to-length, field-left, field-right}
-use Rattle.saved_test.specs.Form.{headerSize, recordSize, massSize, recordOffset, formSize, liveCount, massesTo, recordBytes, massBytes, savedMasses, savedSize, header, recordEntries, massEntries, savedForm}
+use Rattle.saved_test.specs.Form.{headerSize, recordSize, massSize, recordOffset, formSize, liveCount, massesTo, recordBytes, massBytes, savedMasses, savedSize, header, savedHeader, recordEntries, massEntries, savedForm}
 
 pub record-length : (t : Threshold) → length (recordBytes t) ≡ recordSize
 unfolding recordBytes
@@ -52,7 +52,7 @@ join-field-at g (suc n) r i width o l h =
     (eq-or-lt-of-le l))
 
 module _ (p : Plan) (s : State) where
-  pub header-length : length (header p s) ≡ headerSize
+  pub header-length : length (savedHeader p s) ≡ headerSize
   unfolding header
   header-length = simp (length-append, to-length)
 
@@ -61,9 +61,9 @@ module _ (p : Plan) (s : State) where
   records-length = join-length _ recordSize (p .count) (λ i l. record-length (recordAt s i))
 
   -- the parts before the masses
-  pub front-length : length (header p s ++ recordEntries p s) ≡ recordOffset (p .count)
+  pub front-length : length (savedHeader p s ++ recordEntries p s) ≡ recordOffset (p .count)
   unfolding recordOffset
-  front-length = omega (arith, length-append (header p s) (recordEntries p s), header-length, records-length)
+  front-length = omega (arith, length-append (savedHeader p s) (recordEntries p s), header-length, records-length)
 
   module _ (words : List ℕ) where
     pub entries-length : length (massEntries p s words) ≡ massSize * savedMasses p s

@@ -22,7 +22,7 @@ use Rattle.bucket_test.proofs.PartLaws.{words-say}
 use Rattle.little.specs.Little.{toLE, putAt}
 use Rattle.little.proofs.LittleLaws.{to-length}
 use Rattle.little.proofs.Putting.{then, put-first, put-drop}
-use Rattle.saved_test.specs.Form.{headerSize, recordSize, massSize, recordOffset, formSize, liveCount, massesTo, markCode, markStep, recordBytes, massBytes, savedMasses, savedSize, header, recordEntries, massEntries, savedForm}
+use Rattle.saved_test.specs.Form.{headerSize, recordSize, massSize, recordOffset, formSize, liveCount, massesTo, markCode, markStep, recordBytes, massBytes, savedMasses, savedSize, header, savedHeader, recordEntries, massEntries, savedForm}
 use Rattle.saved_test.specs.Writing.{saveRefusal, writeRefusal, savedBy, bytesBy, saved, bytesAfter}
 use Rattle.saved_test.specs.declared.Saved.{Saved}
 use Rattle.walk.specs.Numbers.{le?}
@@ -53,14 +53,13 @@ module _ (t : Threshold) (at code step bits : ℕ) (c : code ≡ markCode (t .ma
 
 -- ---- the header, by its four pairs of numbers and the last
 
-module _ (p : Plan) (s : State) (count masses n ones : ℕ) (counts : p .count ≡ count) (is : savedMasses p s ≡ masses) (draws : s .n ≡ n)
-    (of-them : s .ones ≡ ones) where
+module _ (count masses n ones : ℕ) where
   pub header-put : (b₀ b₁ b₂ b₃ b₄ b₅ : List ℕ) → b₁ ≡ putAt 0 (toLE 2 count ++ toLE 2 masses) b₀
       → b₂ ≡ putAt 4 (toLE 2 24 ++ toLE 2 (24 + 32 * count)) b₁
       → b₃ ≡ putAt 8 (toLE 4 (24 + 32 * count + 8 * masses) ++ toLE 4 n) b₂
       → b₄ ≡ putAt 16 (toLE 4 ones ++ toLE 2 32) b₃
       → b₅ ≡ putAt 22 (toLE 2 8) b₄
-      → b₅ ≡ putAt 0 (header p s) b₀
+      → b₅ ≡ putAt 0 (header count masses n ones) b₀
   unfolding header formSize recordOffset
   header-put b₀ b₁ b₂ b₃ b₄ b₅ e1 e2 e3 e4 e5 =
       let one = toLE 2 count ++ toLE 2 masses in
@@ -72,7 +71,7 @@ module _ (p : Plan) (s : State) (count masses n ones : ℕ) (counts : p .count �
       let f4 = then 0 ((one ++ two) ++ three) four b₀ b₃ b₄ 16 f3 e4 (omega arith) (simp (length-append, to-length)) in
       let whole : b₅ ≡ putAt 0 ((((one ++ two) ++ three) ++ four) ++ toLE 2 8) b₀ =
       then 0 (((one ++ two) ++ three) ++ four) (toLE 2 8) b₀ b₄ b₅ 22 f4 e5 (omega arith) (simp (length-append, to-length)) in
-      rw (is, counts, draws, of-them) (simp append-assoc at whole)
+      simp append-assoc at whole
 
 -- ---- one entry more, where entries differ in length
 
@@ -141,25 +140,25 @@ module _ (p : Plan) (s : State) (words bytes : List ℕ) where
   -- masses first, then header and records in front of them
   pub form-put : (b₁ b₂ : List ℕ)
       → b₁ ≡ putAt (headerSize + recordSize * p .count) (joinTo (p .count) (λ i. massBytes (liveCount (recordAt s i)) (partAt i words))) bytes
-      → b₂ ≡ putAt 0 (header p s ++ recordEntries p s) b₁
+      → b₂ ≡ putAt 0 (savedHeader p s ++ recordEntries p s) b₁
       → headerSize + recordSize * p .count ≤ length bytes
       → b₂ ≡ savedForm p s words ++ drop (savedSize p s) bytes
   unfolding savedForm massEntries recordOffset formSize
   form-put b₁ b₂ e f long =
-      let front = header p s ++ recordEntries p s in
+      let front = savedHeader p s ++ recordEntries p s in
       let at = headerSize + recordSize * p .count in
       let rear = massEntries p s words in
       let size : at + length rear ≡ savedSize p s = omega (arith, entries-length p s words) in
       let behind : drop (length front) b₁ ≡ rear ++ drop (savedSize p s) bytes =
       ap (λ (n : ℕ). drop n b₁) (front-length p s) ∙ ap (drop at) e ∙ put-drop at rear bytes long ∙ ap (λ (n : ℕ). rear ++ drop n bytes) size in
       f ∙ put-first front b₁ ∙ ap (λ (r : List ℕ). front ++ r) behind ∙ sym (append-assoc front rear (drop (savedSize p s) bytes))
-      ∙ ap (λ (r : List ℕ). r ++ drop (savedSize p s) bytes) (append-assoc (header p s) (recordEntries p s) rear)
+      ∙ ap (λ (r : List ℕ). r ++ drop (savedSize p s) bytes) (append-assoc (savedHeader p s) (recordEntries p s) rear)
 
 -- header, then records
-pub front-put : (p : Plan) (s : State) (bytes b₁ b₂ : List ℕ) → b₁ ≡ putAt 0 (header p s) bytes
-    → b₂ ≡ putAt headerSize (joinTo (p .count) (λ i. recordBytes (recordAt s i))) b₁ → b₂ ≡ putAt 0 (header p s ++ recordEntries p s) bytes
+pub front-put : (p : Plan) (s : State) (bytes b₁ b₂ : List ℕ) → b₁ ≡ putAt 0 (savedHeader p s) bytes
+    → b₂ ≡ putAt headerSize (joinTo (p .count) (λ i. recordBytes (recordAt s i))) b₁ → b₂ ≡ putAt 0 (savedHeader p s ++ recordEntries p s) bytes
 unfolding recordEntries
-front-put p s bytes b₁ b₂ e f = then 0 (header p s) (recordEntries p s) bytes b₁ b₂ headerSize e f (omega arith) (omega (arith, header-length p s))
+front-put p s bytes b₁ b₂ e f = then 0 (savedHeader p s) (recordEntries p s) bytes b₁ b₂ headerSize e f (omega arith) (omega (arith, header-length p s))
 
 pub size-is : (p : Plan) (s : State) (masses : ℕ) → masses ≡ savedMasses p s → headerSize + recordSize * p .count + massSize * masses ≡ savedSize p s
 unfolding formSize recordOffset

@@ -129,6 +129,20 @@ recordBytes t =
 unfoldable pub massBytes : ℕ → List ℕ → List ℕ
 massBytes count part = joinTo count (λ j. toLE massSize (getD part j 0))
 
+-- the header of a form with so many thresholds and masses, after n draws with so many ones: 2 bytes K, 2 bytes count of masses, 2 bytes offset of
+-- records, 2 bytes offset of masses, 4 bytes whole length, 4 bytes n, 4 bytes S, 2 bytes size of a record, 2 bytes size of a mass
+unfoldable pub header : ℕ → ℕ → ℕ → ℕ → List ℕ
+header count masses n ones =
+    toLE 2 count
+    ++ (toLE 2 masses
+    ++ (toLE 2 headerSize
+    ++ (toLE 2 (recordOffset count)
+    ++ (toLE 4 (formSize count masses)
+    ++ (toLE 4 n
+    ++ (toLE 4 ones
+    ++ (toLE 2 recordSize
+    ++ toLE 2 massSize)))))))
+
 module _ (p : Plan) (s : State) where
   -- the masses of all open thresholds together, and the whole length
   abbrev pub savedMasses : ℕ
@@ -137,19 +151,9 @@ module _ (p : Plan) (s : State) where
   abbrev pub savedSize : ℕ
   savedSize = formSize (p .count) savedMasses
 
-  -- 2 bytes K, 2 bytes count of masses, 2 bytes offset of records, 2 bytes offset of masses, 4 bytes whole length, 4 bytes n, 4 bytes S,
-  -- 2 bytes size of a record, 2 bytes size of a mass
-  unfoldable pub header : List ℕ
-  header =
-      toLE 2 (p .count)
-      ++ (toLE 2 savedMasses
-      ++ (toLE 2 headerSize
-      ++ (toLE 2 (recordOffset (p .count))
-      ++ (toLE 4 savedSize
-      ++ (toLE 4 (s .n)
-      ++ (toLE 4 (s .ones)
-      ++ (toLE 2 recordSize
-      ++ toLE 2 massSize)))))))
+  -- the test's header
+  abbrev pub savedHeader : List ℕ
+  savedHeader = header (p .count) savedMasses (s .n) (s .ones)
 
   -- the first K records; then the masses of each of the K thresholds
   unfoldable pub recordEntries : List ℕ
@@ -159,4 +163,4 @@ module _ (p : Plan) (s : State) where
   massEntries words = joinTo (p .count) (λ i. massBytes (liveCount (recordAt s i)) (partAt i words))
 
   unfoldable pub savedForm : List ℕ → List ℕ
-  savedForm words = header ++ (recordEntries ++ massEntries words)
+  savedForm words = savedHeader ++ (recordEntries ++ massEntries words)

@@ -1,20 +1,21 @@
 // Reading a saved test (saved 3): any bytes give a test or a refusal.
 ghost use mathlib.Core.Path.{_≡_};
-ghost use mathlib.Core.Bool.{true, _&&_};
+ghost use mathlib.Core.Bool.{_&&_};
 ghost use mathlib.Core.List.{[], _∷_};
 ghost use Prim.Native.Nat.{ℕ, _+_, _*_, _^_, _≤_, _<_};
 ghost use lib.ListN.{length, getD, replicate};
 ghost use Rattle.walk.specs.Units.{wide, allowanceLimit, horizonLimit};
 ghost use Rattle.walk.specs.Spending.{spending};
+ghost use Rattle.walk.specs.Weighing.{Weighs};
 ghost use Rattle.plan.specs.Places.{eq?, allTo, unless, firstRefusal, overTo, joinTo};
 ghost use Rattle.plan.specs.Plan.{countLimit, planRefusal};
 ghost use Rattle.bucket_test.specs.Turn.{startRecord, recordSound};
 ghost use Rattle.bucket_test.specs.Draw.{stateSound, noState};
 ghost use Rattle.little.specs.Little.{field, column, filled};
 ghost use Rattle.saved_test.specs.Form.{headerSize, countField, massesField, recordOffsetField, massOffsetField, sizeField, recordSizeField, massSizeField};
-ghost use Rattle.saved_test.specs.Form.{recordSize, stepField, massSize, massesTo};
+ghost use Rattle.saved_test.specs.Form.{recordSize, stepField, massSize, liveCount, massesTo};
 ghost use Rattle.saved_test.specs.Reading.{markKnown, countFits, recordFrom, recordIn, recordFits, partIn, stateIn, wordsIn, formFits, loaded, wordsAfter};
-ghost use Rattle.saved_test.specs.Inner.{RecordsAndMasses, PartHolds};
+ghost use Rattle.saved_test.specs.Inner.{RecordsAndMasses};
 use crate::Loaded;
 use crate::form::COUNT_FIELD;
 use crate::form::DRAWS_FIELD;
@@ -40,7 +41,6 @@ use crate::marks::mark_of;
 use crate::signed::signed_of;
 use bucket_test::State;
 use bucket_test::Threshold;
-use bucket_test::judging::record_sound;
 use bucket_test::starting::no_walked;
 use bucket_test::starting::ten_of;
 use little::numbers::read_u16;
@@ -50,9 +50,16 @@ use little::tables::long_fields_in;
 use plan::COUNT_LIMIT;
 use plan::Plan;
 use plan::rules::plan_refusal;
+use plan::rules::within;
+use walk::Mark;
 use walk::WIDE;
 use walk::Walked;
+use walk::Weighed;
 use walk::row::clear_from;
+use walk::soundness::boundaries_sound;
+use walk::soundness::masses_sound;
+use walk::soundness::weigh_next;
+use walk::soundness::weigh_none;
 use walk::spending::spending_at;
 use walk::starting::start_walked;
 
@@ -237,8 +244,39 @@ fn parts_in(bytes: &[u8], count: usize, words: &mut [u64])
     }
 }
 
-// Whether each of the thresholds that the bytes hold passes refusal 11 after n draws, where the form fits; their masses are read, one threshold
-// after the other, into a part that has room for those of each.
+// So many masses from an offset on, weighed where they stand.
+fn weigh_in(bytes: &[u8], at: usize, count: usize) -> Weighed
+    requires { ⌜ (count ≤ wide) × (at + massSize * count ≤ length (now bytes)) ⌝ }
+    ensures { λ r. ⌜ Weighs (filled count (column massSize at massSize (now (bytes .entry))) (replicate wide 0)) count r ⌝ }
+{
+    let mut w = weigh_none();
+    for i in 0..count {
+        w = weigh_next(w, read_u64(bytes, at + MASS_SIZE * i));
+    }
+    w
+}
+
+// Whether a record, with its masses from an offset on, passes refusal 11 after n draws with so many ones, with e = E(n).
+fn record_sound_in(bytes: &[u8], at: usize, t: Threshold, e: u64, n: u32, ones: u32) -> bool
+    requires { ⌜ (liveCount t ≤ wide) × (at + massSize * liveCount t ≤ length (now bytes)) ⌝ }
+    ensures { λ r. ⌜ r ≡ recordSound e n ones (t .mark) t
+        (filled (liveCount t) (column massSize at massSize (now (bytes .entry))) (replicate wide 0)) ⌝ }
+{
+    let mark = t.mark;
+    match mark {
+        Mark::Open => {
+            let w = t.walked;
+            if !boundaries_sound(w, n, ones, e) {
+                return false;
+            }
+            masses_sound(weigh_in(bytes, at, live_count(t)), w.over, w.under)
+        }
+        Mark::Above(u) => within(u, 1, n),
+        Mark::AtMost(u) => within(u, 1, n),
+    }
+}
+
+// Whether each of the thresholds that the bytes hold passes refusal 11, where the form fits.
 fn parts_sound(
     allowances: &[u64; COUNT_LIMIT],
     count: usize,
@@ -246,23 +284,20 @@ fn parts_sound(
     bytes: &[u8],
     n: u32,
     ones: u32,
-    part: &mut [u64],
 ) -> bool
     requires { ⌜ (count ≤ countLimit) × ((i : ℕ) → i < count → getD (now allowances) i 0 ≤ allowanceLimit) × (1 ≤ delay) × (n ≤ horizonLimit)
-        × RecordsAndMasses count (now bytes) × PartHolds count (now bytes) (length (now part)) ⌝ }
+        × RecordsAndMasses count (now bytes) ⌝ }
     ensures { λ r. ⌜ r ≡ allTo count (λ i. recordSound (spending (getD (now (allowances .entry)) i 0) delay n) n ones
         (recordIn (now (bytes .entry)) i .mark) (recordIn (now (bytes .entry)) i) (partIn (now (bytes .entry)) count i)) ⌝ }
 {
     let mut at = HEADER_SIZE + RECORD_SIZE * count;
     for i in 0..count {
         let t = record_from(bytes, HEADER_SIZE + RECORD_SIZE * i);
-        let live = live_count(t);
-        front_in(bytes, at, live, part);
         let e = spending_at(allowances[i], delay, n);
-        if !record_sound(t, &part[..], e, n, ones) {
+        if !record_sound_in(bytes, at, t, e, n, ones) {
             return false;
         }
-        at += MASS_SIZE * live;
+        at += MASS_SIZE * live_count(t);
     }
     true
 }
@@ -274,10 +309,9 @@ pub fn state_sound_in(
     delay: u32,
     horizon: u32,
     bytes: &[u8],
-    part: &mut [u64],
 ) -> bool
     requires { ⌜ (count ≤ countLimit) × ((i : ℕ) → i < count → getD (now allowances) i 0 ≤ allowanceLimit) × (1 ≤ delay) × (horizon ≤ horizonLimit)
-        × RecordsAndMasses count (now bytes) × PartHolds count (now bytes) (length (now part)) ⌝ }
+        × RecordsAndMasses count (now bytes) ⌝ }
     ensures { λ r. ⌜ ((p : Plan) → p .count ≡ count → p .allowances ≡ now (allowances .entry) → p .delay ≡ delay → p .horizon ≡ horizon
         → r ≡ stateSound p (stateIn p (now (bytes .entry))) (wordsIn p (now (bytes .entry)))) ⌝ }
 {
@@ -289,23 +323,7 @@ pub fn state_sound_in(
     if ones > n {
         return false;
     }
-    parts_sound(allowances, count, delay, bytes, n, ones, part)
-}
-
-// .. before a lent word changes, with words of its own.
-fn may_read(p: Plan, bytes: &[u8]) -> bool
-    requires { ⌜ (planRefusal p ≡ 0) × (formFits p (now bytes) ≡ true) ⌝ }
-    ensures { λ r. ⌜ r ≡ stateSound p (stateIn p (now (bytes .entry))) (wordsIn p (now (bytes .entry))) ⌝ }
-{
-    let mut part = [0u64; WIDE];
-    state_sound_in(
-        &p.allowances,
-        p.count as usize,
-        p.delay,
-        p.horizon,
-        bytes,
-        &mut part,
-    )
+    parts_sound(allowances, count, delay, bytes, n, ones)
 }
 
 // The first refusal of a reading into so many words before the test is judged: plan, 8, 15.
@@ -347,11 +365,12 @@ pub fn read_test(p: Plan, bytes: &[u8], words: &mut [u64]) -> Loaded
     if bad != 0 {
         return refused(bad);
     }
-    if !may_read(p, bytes) {
+    let count = p.count as usize;
+    if !state_sound_in(&p.allowances, count, p.delay, p.horizon, bytes) {
         return refused(11);
     }
     let state = state_in(p, bytes);
-    parts_in(bytes, p.count as usize, words);
+    parts_in(bytes, count, words);
     Loaded {
         refusal: 0,
         state: state,

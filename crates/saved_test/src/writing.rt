@@ -10,7 +10,7 @@ ghost use Rattle.plan.specs.Plan.{countLimit};
 ghost use Rattle.bucket_test.specs.Words.{partAt};
 ghost use Rattle.bucket_test.specs.Turn.{noRecord, recordAt};
 ghost use Rattle.little.specs.Little.{putAt};
-ghost use Rattle.saved_test.specs.Form.{headerSize, recordSize, massSize, liveCount, massesTo, recordBytes, massBytes, recordOffset, savedMasses, savedSize, header, recordEntries};
+ghost use Rattle.saved_test.specs.Form.{headerSize, recordSize, massSize, liveCount, massesTo, recordBytes, massBytes, recordOffset, savedSize, header, savedHeader, recordEntries};
 ghost use Rattle.saved_test.specs.Writing.{saveRefusal, savedBy, bytesBy, saved, bytesAfter};
 use crate::Saved;
 use crate::form::COUNT_FIELD;
@@ -97,8 +97,7 @@ fn write_masses(bytes: &mut [u8], count: usize, records: [Threshold; COUNT_LIMIT
 // The header of the form of a test with so many thresholds and masses, after n draws.
 pub fn write_header(bytes: &mut [u8], count: usize, masses: usize, n: u32, ones: u32)
     requires { ⌜ (count ≤ countLimit) × (headerSize ≤ length (now bytes)) × (masses ≤ wide * countLimit) ⌝ }
-    ensures { λ _. ⌜ ((p : Plan) (s : State) → p .count ≡ count → savedMasses p s ≡ masses → s .n ≡ n → s .ones ≡ ones
-        → now (bytes .exit) ≡ putAt 0 (header p s) (now (bytes .entry))) ⌝ }
+    ensures { λ _. ⌜ now (bytes .exit) ≡ putAt 0 (header count masses n ones) (now (bytes .entry)) ⌝ }
 {
     let offset = HEADER_SIZE + RECORD_SIZE * count;
     let size = offset + MASS_SIZE * masses;
@@ -119,7 +118,7 @@ pub fn write_header(bytes: &mut [u8], count: usize, masses: usize, n: u32, ones:
 // Header and records of a test, in front of its masses.
 pub fn write_front(bytes: &mut [u8], p: Plan, s: State)
     requires { ⌜ (p .count ≤ countLimit) × ((i : ℕ) → i < p .count → liveCount (recordAt s i) ≤ wide) × (recordOffset (p .count) ≤ length (now bytes)) ⌝ }
-    ensures { λ _. ⌜ now (bytes .exit) ≡ putAt 0 (header p s ++ recordEntries p s) (now (bytes .entry)) ⌝ }
+    ensures { λ _. ⌜ now (bytes .exit) ≡ putAt 0 (savedHeader p s ++ recordEntries p s) (now (bytes .entry)) ⌝ }
 {
     let count = p.count as usize;
     let records = s.records;

@@ -1,5 +1,5 @@
 -- What is handed back, by the refusals of a reading and of a writing in their order (specs/Reading, specs/Writing).
-use mathlib.Core.Path.{_≡_, refl, sym, ap₂, _∙_}
+use mathlib.Core.Path.{_≡_, refl, sym, ap, ap₂, _∙_}
 use mathlib.Core.Bool.{Bool, true, false}
 use mathlib.Core.List.{List, [], _∷_, _++_}
 use mathlib.Core.Logic.{_↔_}
@@ -15,7 +15,9 @@ use Rattle.plan.proofs.PlaceLaws.{both, le-reads, eq?-fails, eq-reads, first-so
 use Rattle.plan.proofs.AcceptedLaws.{Counted, counts-say}
 use Rattle.little.specs.Little.{field}
 use Rattle.stored_plan.specs.Form.{headerSize, thresholdOffsetField, bucketOffsetField, bucketOffset, formSize, formLimit, encoded}
-use Rattle.stored_plan.specs.Reading.{countIn, bucketsIn, planIn, offsetsFit, lengthFits, formRefusal, readRefusal, noPlan, decoded}
+use Rattle.stored_plan.specs.Reading.{countIn, bucketsIn, planIn, offsetsFit, lengthFits, formRefusal, readRefusal, noPlan, decodedBy, decoded}
+use Rattle.stored_plan.specs.Inner.{Into}
+use Rattle.stored_plan.specs.declared.Read.{Read}
 use Rattle.stored_plan.specs.Writing.{writeRefusal, written, bytesAfter}
 use Rattle.stored_plan.proofs.FormLaws.{longest}
 
@@ -57,6 +59,28 @@ module _ (bytes : List ℕ) where
 
     pub past-form : r ≡ 0 → readRefusal bytes ≡ planRefusal (planIn bytes)
     past-form z = past-header h ∙ rw (← e, z) (first-one (planRefusal (planIn bytes)))
+
+  refusal-read : decoded bytes .refusal ≡ readRefusal bytes
+  unfolding decoded
+  refusal-read = by (readRefusal bytes)
+    where
+      by : (r : ℕ) → decodedBy r bytes .refusal ≡ r
+      by zero = refl
+      by (suc r) = refl
+
+  -- a reading into lent tables
+  pub into-some : (r : ℕ) → ¬ (r ≡ 0) → readRefusal bytes ≡ r → (q : ℕ) → q ≡ r → (p : Plan) → Into bytes q p
+  into-some r n e q d p = (d ∙ sym (refusal-read ∙ e), λ z. absurd (n (sym d ∙ z)))
+
+  pub into-plan : (q : ℕ) (p : Plan) → readRefusal bytes ≡ planRefusal (planIn bytes) → p ≡ planIn bytes → q ≡ planRefusal (planIn bytes) → Into bytes q p
+  into-plan q p e plan d = (d ∙ sym (refusal-read ∙ e), λ z. plan ∙ ap (λ (x : Read). x .plan) (decoded-none (e ∙ sym d ∙ z)))
+
+  -- .. and the reading that hands the plan back
+  pub back-some : (r : ℕ) (p : Plan) → Into bytes r p → ¬ (r ≡ 0) → record { refusal = r; plan = noPlan } ≡ decoded bytes
+  back-some r p h n = decoded-some r n (sym (h .0 ∙ refusal-read))
+
+  pub back-none : (r : ℕ) (p : Plan) → Into bytes r p → r ≡ 0 → record { refusal = r; plan = p } ≡ decoded bytes
+  back-none r p h z = ap₂ (λ (x : ℕ) (y : Plan). record { refusal = x; plan = y }) (h .0) (h .1 z)
 
   -- what the tests of a form say
   abbrev pub Counts : Type 0

@@ -17,6 +17,15 @@ pub struct Read {
     pub plan: Plan,
 }
 
+// The refusal of a plan whose tables were read into lent ones, 0 for none, and its other numbers, which say nothing where it is refused.
+pub struct Head {
+    pub refusal: u32,
+    pub count: u32,
+    pub buckets: u32,
+    pub delay: u32,
+    pub horizon: u32,
+}
+
 // The number of bytes written, or the number of the refusal, 0 for none.
 pub struct Written {
     pub refusal: u32,

@@ -23,4 +23,5 @@ pub mod SoundnessLaws
 pub mod RecordLaws
 -- What the loops of the code leave to do.
 mod Loops
+mod WeighingLaws
 mod Parts

@@ -1,6 +1,6 @@
--- What a turn of each loop of src/row.rt and src/soundness.rt leaves to do.
-use mathlib.Core.Path.{_≡_, sym}
-use mathlib.Core.Bool.{Bool, true, _&&_, and-assoc}
+-- What a turn of each loop of src/row.rt leaves to do.
+use mathlib.Core.Path.{_≡_}
+use mathlib.Core.Bool.{true}
 use mathlib.Core.List.{List, _++_, append-nil}
 use Prim.Native.Nat.{ℕ, suc, _+_, _-_, _≤_, _<_}
 use native.Mathlib.Numerals.{add-one}
@@ -8,7 +8,7 @@ use native.Mathlib.Nat.{le-antisymm, lt-of-not-le, sub-zero, add-zero}
 use native.Mathlib.Omega.{arith}
 use lib.ListN.{length, take, drop, set, getD, replicate, length-set, take-append-drop}
 use lib.Seq.{take-suc-set, append-snoc, drop-set-lt, drop-cons, take-all, set-split}
-use Rattle.walk.specs.Numbers.{le?, sum, allUpTo}
+use Rattle.walk.specs.Numbers.{sum, allUpTo}
 use Rattle.walk.specs.Mass.{massUp}
 use Rattle.walk.specs.Row.{cellsBy, newMasses, kept, dropped}
 use Rattle.walk.proofs.Lists.{sum-take-suc, sum-take-drop, sum-drop-suc, sum-drop-falls, all-cons}
@@ -126,9 +126,3 @@ module _ (e under taken : ℕ) (cs : List ℕ) (i : ℕ) (is : taken ≡ under +
           (not-less (λ (q : dropped e under cs < i). omega (arith, d .most (omega arith), rises (suc (dropped e under cs)) i q)))
           (not-less (λ (q : i < dropped e under cs).
           omega (arith, d .fits, d .within, stop (omega (arith, d .within)), sum-take-suc cs i, rises (suc i) (dropped e under cs) q)))
-
--- ---- all_fit at i: f says whether the words so far fit
-
-pub fits-more : (b : ℕ) (l : List ℕ) (i : ℕ) (f g : Bool) → i < length l → g ≡ f && le? (getD l i 0) b
-    → f && allUpTo b (drop i l) ≡ g && allUpTo b (drop (i + 1) l)
-fits-more b l i f g within is = rw (add-one, drop-cons l i 0, is) (sym (and-assoc f (le? (getD l i 0) b) (allUpTo b (drop (suc i) l))))

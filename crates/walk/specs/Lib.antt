@@ -1,4 +1,5 @@
--- What a reader of this crate has to believe: each file after those it rests on, with its sections of docs/RULES.md. Definitions only.
+-- What a reader of this crate has to believe: each file after those it rests on, with its sections of docs/RULES.md. Definitions only; `Weighing`
+-- is cited by inner contracts alone.
 pub mod Numbers
 pub mod Units
 pub mod Spending
@@ -11,3 +12,4 @@ pub mod Chance
 pub mod Facts
 pub mod Record
 pub mod Soundness
+pub mod Weighing

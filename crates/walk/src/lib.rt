@@ -38,3 +38,9 @@ pub struct Walked {
     pub over: u64,
     pub under: u64,
 }
+
+// What a pass over masses keeps of them: bits that tell whether each is at most 2^43, and, where they are and are not too many, their sum.
+pub struct Weighed {
+    pub bits: u64,
+    pub sum: u64,
+}

@@ -4,27 +4,30 @@ use crate::M;
 use crate::MASS_LIMIT;
 use crate::WIDE;
 use crate::Walked;
+use crate::Weighed;
 use std::num::wrapping_add_u64;
 ghost use mathlib.Core.Path.{_≡_};
-ghost use mathlib.Core.Bool.{true};
-ghost use Prim.Native.Nat.{_+_, _-_, _≤_};
-ghost use lib.ListN.{length};
+ghost use mathlib.Core.Bool.{_&&_};
+ghost use mathlib.Core.List.{List};
+ghost use Prim.Native.Nat.{ℕ, _+_, _-_, _≤_};
+ghost use lib.ListN.{length, take, getD};
 ghost use Rattle.walk.specs.Numbers.{le?, choose, sum, allUpTo};
 ghost use Rattle.walk.specs.Units.{M, massLimit, wide};
 ghost use Rattle.walk.specs.Walk.{below};
 ghost use Rattle.walk.specs.Record.{firstAbove, isWide};
 ghost use Rattle.walk.specs.Soundness.{boundariesSound, isSound};
+ghost use Rattle.walk.specs.Weighing.{Weighs};
 
 // How far apart the boundaries of a wide walk are.
 const WIDE_APART: i64 = WIDE as i64 + 1;
 
-// What `all_fit` adds to each word, and the number that tells then.
+// What `weigh_next` adds to each mass, and the number that tells then.
 const BELOW_LIMIT: u64 = MASS_LIMIT - 1;
 
 const TWICE_LIMIT: u64 = 2 * MASS_LIMIT;
 
 // What refusal 11 asks of the boundaries and the spent masses, in its order. Differences are taken in 64 bits, where none overflows.
-fn boundaries_sound(w: Walked, n: u32, ones: u32, e: u64) -> bool
+pub fn boundaries_sound(w: Walked, n: u32, ones: u32, e: u64) -> bool
     ensures { λ r. ⌜ r ≡ boundariesSound e n ones w ⌝ }
 {
     if w.lower < -1 {
@@ -52,32 +55,35 @@ fn boundaries_sound(w: Walked, n: u32, ones: u32, e: u64) -> bool
     w.under <= e
 }
 
-// Whether each word x is at most 2^43: just then x and x + 2^43 - 1 are both below 2^44. The pass runs at every draw, so it has no branch.
-fn all_fit(words: &[u64]) -> bool
-    ensures { λ r. ⌜ r ≡ allUpTo massLimit (now (words .entry)) ⌝ }
+// A pass over masses: of none.
+pub fn weigh_none() -> Weighed
+    ensures { λ r. ⌜ ((masses : List ℕ) → Weighs masses 0 r) ⌝ }
 {
-    let mut seen: u64 = 0;
-    let mut i = 0;
-    while i < words.len() {
-        let x = words[i];
-        seen |= x | wrapping_add_u64(x, BELOW_LIMIT);
-        i += 1;
-    }
-    seen < TWICE_LIMIT
+    Weighed { bits: 0, sum: 0 }
 }
 
-// The words' sum: so many words that fit cannot overflow.
-fn sum_up(words: &[u64]) -> u64
-    requires { ⌜ (length (now words) ≤ wide) × (allUpTo massLimit (now words) ≡ true) ⌝ }
-    ensures { λ r. ⌜ r ≡ sum (now (words .entry)) ⌝ }
+// .. and of the next: x is at most 2^43 just when x and x + 2^43 - 1 are both below 2^44. The pass runs at every draw, so it has no branch.
+pub fn weigh_next(w: Weighed, x: u64) -> Weighed
+    ensures { λ r. ⌜ ((masses : List ℕ) (i : ℕ) → getD masses i 0 ≡ x → Weighs masses i w → Weighs masses (i + 1) r) ⌝ }
 {
-    let mut total: u64 = 0;
-    let mut i = 0;
-    while i < words.len() {
-        total += words[i];
-        i += 1;
+    let above = wrapping_add_u64(x, BELOW_LIMIT);
+    let sum = wrapping_add_u64(w.sum, x);
+    Weighed {
+        bits: w.bits | (x | above),
+        sum: sum,
     }
-    total
+}
+
+// .. and of the first words.
+fn weigh_first(words: &[u64], count: usize) -> Weighed
+    requires { ⌜ count ≤ length (now words) ⌝ }
+    ensures { λ r. ⌜ Weighs (now (words .entry)) count r ⌝ }
+{
+    let mut w = weigh_none();
+    for i in 0..count {
+        w = weigh_next(w, words[i]);
+    }
+    w
 }
 
 // Whether three masses make up M: what is missing is counted down, so that nothing overflows.
@@ -92,6 +98,17 @@ fn is_whole(live: u64, over: u64, under: u64) -> bool
         return true;
     }
     under >= missing - over
+}
+
+// What refusal 11 asks of the live masses, at most 769, beside both spent masses.
+pub fn masses_sound(w: Weighed, over: u64, under: u64) -> bool
+    ensures { λ r. ⌜ ((masses : List ℕ) (count : ℕ) → count ≤ wide → Weighs masses count w
+        → r ≡ (allUpTo massLimit (take count masses) && le? M (sum (take count masses) + over + under))) ⌝ }
+{
+    if w.bits >= TWICE_LIMIT {
+        return false;
+    }
+    is_whole(w.sum, over, under)
 }
 
 // How many words are live: one for each live count, or those that are there.
@@ -111,11 +128,7 @@ pub fn is_sound(part: &[u64], w: Walked, n: u32, ones: u32, e: u64) -> bool
         return false;
     }
     let m = live_words(w, part.len());
-    if !all_fit(&part[..m]) {
-        return false;
-    }
-    let live = sum_up(&part[..m]);
-    is_whole(live, w.over, w.under)
+    masses_sound(weigh_first(part, m), w.over, w.under)
 }
 
 // Wide: upper - lower - 1 is 769 (rules 3.7). Of any boundaries: the difference is taken in 64 bits.

@@ -1,26 +1,16 @@
--- By the length of the form.
+-- By the masses of the threshold with the most.
 use native.Mathlib.Omega.{arith}
-use Rattle.saved_test.specs.Form.{recordOffset}
-use Rattle.calls.proofs.Taking.{ready-few}
+use Rattle.calls.proofs.Taking.{ready-few, ready-long}
 use borrow.Author.Needs.{needs}
 use Rattle.calls.proofs.drawing.take_in.Statement.{statement}
 use Rattle.calls.proofs.drawing.take_in.Tie as tie
 
-mul-at : tie.Need-mul-at
-mul-at c = record { fits = omega (arith, ready-few _ _ _ _ _ _ _ (c .before .before .pre)) }
-
-add-at : tie.Need-add-at
-add-at c = record { fits = omega (arith, ready-few _ _ _ _ _ _ _ (c .before .before .pre)) }
-
-mul-if1 : tie.Need-mul-if1
-mul-if1 c = search needs
-
-add-if1 : tie.Need-add-if1
-add-if1 c = record { fits = omega (arith, ready-few _ _ _ _ _ _ _ (c .before .before .pre)) }
+most-masses-requires : tie.Need-most-masses-requires
+most-masses-requires c κs = (ready-few _ _ _ _ _ _ (c .before .before .pre), ready-long _ _ _ _ _ _ (c .before .before .pre))
 
 take-in-short-requires : tie.Need-take-in-short-requires
-unfolding recordOffset
-take-in-short-requires c κs = (c .before .before .before .before .pre, omega (arith, c .before .if1 .taken))
+take-in-short-requires c κs =
+    (c .before .before .before .before .before .pre, λ i l. omega (arith, c .before .before .most-masses .ensures i l, c .before .if1 .taken))
 
 same-length : tie.Need-same-length
 same-length c = search needs
@@ -28,15 +18,9 @@ same-length c = search needs
 returns : tie.Need-returns
 returns c = search needs
 
-mul-if2 : tie.Need-mul-if2
-mul-if2 c = search needs
-
-add-if2 : tie.Need-add-if2
-add-if2 c = record { fits = omega (arith, ready-few _ _ _ _ _ _ _ (c .before .before .before .pre)) }
-
 take-in-middle-requires : tie.Need-take-in-middle-requires
-unfolding recordOffset
-take-in-middle-requires c κs = (c .before .before .before .before .before .pre, omega (arith, c .before .if2 .taken))
+take-in-middle-requires c κs =
+    (c .before .before .before .before .before .before .pre, λ i l. omega (arith, c .before .before .before .most-masses .ensures i l, c .before .if2 .taken))
 
 same-length-2 : tie.Need-same-length-2
 same-length-2 c = search needs
@@ -57,15 +41,10 @@ pub take-in-spec : {M : Type 1} → statement M
 take-in-spec =
     tie.close
     (tie.spec
-    mul-at
-    add-at
-    mul-if1
-    add-if1
+    most-masses-requires
     take-in-short-requires
     same-length
     returns
-    mul-if2
-    add-if2
     take-in-middle-requires
     same-length-2
     returns-2

@@ -10,7 +10,7 @@ slice-aggregate-take-with c = search needs
 
 take-with-requires : tie.Need-take-with-requires
 unfolding wide
-take-with-requires c κs = (c .before .before .before .before .pre, few-live-in _ _ _ _ _ _ _ (c .before .before .before .before .pre))
+take-with-requires c κs = (c .before .before .before .before .pre, few-live-in _ _ _ _ _ _ (c .before .before .before .before .pre))
 
 same-length : tie.Need-same-length
 same-length c = search needs

@@ -1,4 +1,4 @@
--- As `fields_in`.
+-- The table is filled up to place i.
 use Prim.Native.Nat.{_-_}
 use native.Mathlib.Omega.{arith}
 use borrow.Author.Needs.{needs}

@@ -1,5 +1,5 @@
 -- The thresholds before place i pass.
-use mathlib.Core.Path.{_≡_, refl, ap, _∙_}
+use mathlib.Core.Path.{_≡_, ap, _∙_}
 use mathlib.Core.Bool.{Bool, false}
 use mathlib.Core.List.{List}
 use Prim.Native.Nat.{ℕ, _+_, _*_, _-_, _≤_}
@@ -23,11 +23,11 @@ passes allowances count delay bytes n ones i =
     recordSound (spending (getD allowances i 0) delay n) n ones (recordIn bytes i .mark) (recordIn bytes i) (partIn bytes count i)
 
 abbrev Inv-loop : tie.InvT-loop
-Inv-loop allowances count delay bytes n ones part₀ at₀ i₀ part at i =
-    (length part ≡ length part₀) × (at ≡ massOffset bytes count i) × Sought false (passes allowances count delay bytes n ones) count i
+Inv-loop allowances count delay bytes n ones at₀ i₀ at i =
+    (at ≡ massOffset bytes count i) × Sought false (passes allowances count delay bytes n ones) count i
 
 abbrev μ-loop : tie.MeasureT-loop
-μ-loop allowances count delay bytes n ones part₀ at₀ i₀ part at i = count - i
+μ-loop allowances count delay bytes n ones at₀ i₀ at i = count - i
 
 mul-at : tie.Need-mul-at Inv-loop μ-loop
 mul-at c = search needs
@@ -36,7 +36,7 @@ add-at : tie.Need-add-at Inv-loop μ-loop
 add-at c = search needs
 
 loop-holds : tie.Need-loop-holds Inv-loop μ-loop
-loop-holds c = (refl, offset-first _ _, sought-none false _)
+loop-holds c = (offset-first _ _, sought-none false _)
 
 mul-record-from : tie.Need-mul-record-from Inv-loop μ-loop
 mul-record-from c = search needs
@@ -46,84 +46,76 @@ add-record-from c = search needs
 
 record-from-requires : tie.Need-record-from-requires Inv-loop μ-loop
 unfolding formSize recordOffset
-record-from-requires c κs = let s = c .before .before .before .before in omega (arith, s .pre .4 .sized, c .loop-test .taken)
-
-live-count-requires : tie.Need-live-count-requires Inv-loop μ-loop
-live-count-requires c κs = search needs
-
--- what is known of the threshold at place i
-module _ (c : tie.After-live-count Inv-loop μ-loop) where
-  abbrev start : tie.Start Inv-loop μ-loop
-  start = c .before .before .before .before .before .before
-
-  abbrev i : ℕ
-  i = c .before .before .before .loop .i
-
-  is : c .before .record-from .result ≡ recordIn (start .args .bytes .now) i
-  unfolding recordOffset
-  is = c .before .record-from .ensures
-
-  live : c .live-count .result ≡ liveCount (recordIn (start .args .bytes .now) i)
-  live = c .live-count .ensures .0 ∙ ap (λ (t : Threshold). liveCount t) is
-
-  lent : (c .live-count .result ≤ wide) × (c .before .before .before .loop .at + 8 * c .live-count .result ≤ length (start .args .bytes .now))
-      × (c .before .before .before .loop .at + 8 * c .live-count .result ≡ massOffset (start .args .bytes .now) (start .args .count) (i + 1))
-      × (c .live-count .result ≤ length (c .before .before .before .loop .part))
-  lent =
-      let l = c .before .before .before .loop in
-      let h = c .before .before .loop-test .taken in
-      let s = start in (
-        held-few _ _ (s .pre .4) i h _ (l .at) live (l .inv .1),
-        held-inside _ _ (s .pre .4) i h _ (l .at) live (l .inv .1),
-        held-next _ _ (s .pre .4) i h _ (l .at) live (l .inv .1),
-        omega (arith, s .pre .5 i h, live, l .inv .0),
-      )
-
-front-in-requires : tie.Need-front-in-requires Inv-loop μ-loop
-front-in-requires c κs = (lent (c .before) .3, lent (c .before) .1)
+record-from-requires c κs = let s = c .before .before .before in omega (arith, s .pre .4 .sized, c .loop-test .taken)
 
 mul-spending-at : tie.Need-mul-spending-at Inv-loop μ-loop
 mul-spending-at c = search needs
 
 element-copy-out-spending-at : tie.Need-element-copy-out-spending-at Inv-loop μ-loop
-element-copy-out-spending-at c =
-    omega (arith, start (c .before .before .before .before) .pre .0, c .before .before .before .before .before .before .loop-test .taken)
+element-copy-out-spending-at c = search needs
+
+-- what is known of the threshold at place i
+module _ (c : tie.After-record-from Inv-loop μ-loop) where
+  abbrev start : tie.Start Inv-loop μ-loop
+  start = c .before .before .before .before
+
+  abbrev i : ℕ
+  i = c .before .before .loop .i
+
+  is : c .record-from .result ≡ recordIn (start .args .bytes .now) i
+  unfolding recordOffset
+  is = c .record-from .ensures
+
+  live : liveCount (c .record-from .result) ≡ liveCount (recordIn (start .args .bytes .now) i)
+  live = ap (λ (t : Threshold). liveCount t) is
+
+  lent : (liveCount (c .record-from .result) ≤ wide)
+      × (c .before .before .loop .at + 8 * liveCount (c .record-from .result) ≤ length (start .args .bytes .now))
+      × (c .before .before .loop .at + 8 * liveCount (c .record-from .result) ≡ massOffset (start .args .bytes .now) (start .args .count) (i + 1))
+  lent =
+      let l = c .before .before .loop in
+      let h = c .before .loop-test .taken in
+      let s = start in (
+        held-few _ _ (s .pre .4) i h _ (l .at) live (l .inv .0),
+        held-inside _ _ (s .pre .4) i h _ (l .at) live (l .inv .0),
+        held-next _ _ (s .pre .4) i h _ (l .at) live (l .inv .0),
+      )
 
 spending-at-requires : tie.Need-spending-at-requires Inv-loop μ-loop
 spending-at-requires c κs =
-    let b = c .before .before .before .before .before in
+    let b = c .before in
     let s = start b in
-    (s .pre .1 (i b) (b .before .before .loop-test .taken), s .pre .2, s .pre .3)
+    (s .pre .1 (i b) (b .before .loop-test .taken), s .pre .2, s .pre .3)
 
-record-sound-requires : tie.Need-record-sound-requires Inv-loop μ-loop
-record-sound-requires c κs = search needs
+record-sound-in-requires : tie.Need-record-sound-in-requires Inv-loop μ-loop
+record-sound-in-requires c κs = let b = c .before .before in (lent b .0, lent b .1)
 
-same-length : tie.Need-same-length Inv-loop μ-loop
-same-length c = search needs
-
-judged : (c : tie.After-record-sound Inv-loop μ-loop)
-    → let b = c .before .before .before .before .before .before .before .before in
+judged : (c : tie.After-record-sound-in Inv-loop μ-loop)
+    → let b = c .before .before .before in
     let a = start b .args in
-    c .record-sound .result ≡ passes (a .allowances .now) (a .count) (a .delay) (a .bytes .now) (a .n) (a .ones) (i b)
+    c .record-sound-in .result ≡ passes (a .allowances .now) (a .count) (a .delay) (a .bytes .now) (a .n) (a .ones) (i b)
 judged c =
-    let b = c .before .before .before .before .before .before .before .before in
-    let l = b .before .before .before .loop in
-    c .record-sound .ensures
-    ∙ rw (c .before .before .spending-at .ensures)
-    (held-sound _ _ (start b .pre .4) (i b) (b .before .before .loop-test .taken) _ (l .at) (live b) (l .inv .1) _ (is b) _ _
-    (c .before .before .before .before .before .before .front-in .ensures) (lent b .3) _ _ _)
+    let b = c .before .before .before in
+    let l = b .before .before .loop in
+    c .record-sound-in .ensures
+    ∙ rw (c .before .spending-at .ensures)
+    (held-sound _ _ (start b .pre .4) (i b) (b .before .loop-test .taken) _ (l .at) (live b) (l .inv .0) _ (is b) _ _ _)
 
 returns : tie.Need-returns Inv-loop μ-loop
 returns c =
-    let b = c .before .before .before .before .before .before .before .before .before in
-    let l = b .before .before .before .loop in
-    sought-here false _ (l .inv .2) (b .before .before .loop-test .taken) (failed (judged (c .before)) (c .if1 .taken))
+    let b = c .before .before .before .before in
+    sought-here false _ (b .before .before .loop .inv .1) (b .before .loop-test .taken) (failed (judged (c .before)) (c .if1 .taken))
+
+live-count-requires : tie.Need-live-count-requires Inv-loop μ-loop
+live-count-requires c κs = search needs
 
 mul-at-2 : tie.Need-mul-at-2 Inv-loop μ-loop
-mul-at-2 c = let k = lent (c .before .before .before .before .before .before .before .before .before) in record { fits = omega (arith, k .0) }
+mul-at-2 c =
+    let k = lent (c .before .before .before .before .before) in record { fits = omega (arith, k .0, c .live-count .ensures .0) }
 
 add-at-2 : tie.Need-add-at-2 Inv-loop μ-loop
-add-at-2 c = let k = lent (c .before .before .before .before .before .before .before .before .before) in record { fits = omega (arith, k .1) }
+add-at-2 c =
+    let k = lent (c .before .before .before .before .before) in record { fits = omega (arith, k .1, c .live-count .ensures .0) }
 
 add-i : tie.Need-add-i Inv-loop μ-loop
 add-i c = search needs
@@ -133,15 +125,14 @@ loop-less c = search needs
 
 loop-again : tie.Need-loop-again Inv-loop μ-loop
 loop-again c =
-    let b = c .before .before .before .before .before .before .before .before .before in
-    let l = b .before .before .before .loop in
-    (search needs, lent b .2, sought-next false _ (l .inv .2) (b .before .before .loop-test .taken) (passed (judged (c .before)) (c .if1 .left)))
-
-same-length-2 : tie.Need-same-length-2 Inv-loop μ-loop
-same-length-2 c = search needs
+    let b = c .before .before .before .before .before in
+    let l = b .before .before .loop in (
+      rw (c .live-count .ensures .0) (lent b .2),
+      sought-next false _ (l .inv .1) (b .before .loop-test .taken) (passed (judged (c .before .before)) (c .before .if1 .left)),
+    )
 
 returns-2 : tie.Need-returns-2 Inv-loop μ-loop
-returns-2 c = sought-nowhere false _ (c .before .loop .inv .2) (c .loop-test .left)
+returns-2 c = sought-nowhere false _ (c .before .loop .inv .1) (c .loop-test .left)
 
 pub parts-sound-spec : {M : Type 1} → statement M
 parts-sound-spec =
@@ -155,18 +146,15 @@ parts-sound-spec =
     mul-record-from
     add-record-from
     record-from-requires
-    live-count-requires
-    front-in-requires
     mul-spending-at
     element-copy-out-spending-at
     spending-at-requires
-    record-sound-requires
-    same-length
+    record-sound-in-requires
     returns
+    live-count-requires
     mul-at-2
     add-at-2
     add-i
     loop-less
     loop-again
-    same-length-2
     returns-2)

@@ -1,5 +1,5 @@
 -- The refusals in their order, then the words.
-use mathlib.Core.Path.{_≡_, sym, _∙_}
+use mathlib.Core.Path.{_≡_, refl, sym, _∙_}
 use mathlib.Core.Bool.{true}
 use Prim.Native.Nat.{_*_, _≤_}
 use lib.ListN.{length}
@@ -27,34 +27,38 @@ module _ (c : tie.Else1) where
   abbrev start : tie.Start
   start = c .before .before .before .before
 
-  fit : (planRefusal (start .args .p) ≡ 0)
-      × ((length (start .args .words .now) ≡ wide * start .args .p .count) × (formFits (start .args .p) (start .args .bytes .now) ≡ true))
-  fit = form-judged (start .args .p) (start .args .bytes .now) (length (start .args .words .now)) .0 (sym (c .before .form-refusal .ensures) ∙ c .if1 .left)
+  fit : (planRefusal (start .args .t1) ≡ 0)
+      × ((length (start .args .words .now) ≡ wide * start .args .t1 .count) × (formFits (start .args .t1) (start .args .bytes .now) ≡ true))
+  fit = form-judged (start .args .t1) (start .args .bytes .now) (length (start .args .words .now)) .0 (sym (c .before .form-refusal .ensures) ∙ c .if1 .left)
 
-  few : start .args .p .count ≤ countLimit
-  few = accepted (start .args .p) .0 (fit .0) .count-range .1
+  few : start .args .t1 .count ≤ countLimit
+  few = accepted (start .args .t1) .0 (fit .0) .count-range .1
 
-may-read-requires : tie.Need-may-read-requires
-may-read-requires c κs = (fit c .0, fit c .1 .1)
+cast-count : tie.Need-cast-count
+cast-count c = search needs
+
+state-sound-in-requires : tie.Need-state-sound-in-requires
+state-sound-in-requires c κs =
+    let b = c .before .before in
+    let ok = accepted _ .0 (fit b .0) in
+    (few b, λ i l. ok .allowance-range i l .1, ok .delay-range .0, ok .horizon-range .1, form-held _ _ (fit b .1 .1))
 
 refused-requires-2 : tie.Need-refused-requires-2
 refused-requires-2 c κs = search needs
 
 returns-2 : tie.Need-returns-2
 returns-2 c =
-    let b = c .before .before .before in
-    read-11 _ _ _ _ (b .before .form-refusal .ensures) (b .if1 .left) (failed (c .before .before .may-read .ensures) (c .before .if2 .taken)) _
-    (c .refused2 .ensures)
+    let a = c .before .before in
+    let b = a .before .before .before in
+    read-11 _ _ _ _ (b .before .form-refusal .ensures) (b .if1 .left)
+    (failed (a .state-sound-in .ensures _ refl refl refl refl) (c .before .if2 .taken)) _ (c .refused2 .ensures)
 
 state-in-requires : tie.Need-state-in-requires
-state-in-requires c κs = let b = c .before .before in (few b, form-long _ _ (fit b .1 .1))
-
-cast-parts-in : tie.Need-cast-parts-in
-cast-parts-in c = search needs
+state-in-requires c κs = let b = c .before .before .before .before in (few b, form-long _ _ (fit b .1 .1))
 
 parts-in-requires : tie.Need-parts-in-requires
 parts-in-requires c κs =
-    let b = c .before .before .before .before .before in
+    let b = c .before .before .before .before .before .before in
     (few b, fit b .1 .0, form-held _ _ (fit b .1 .1))
 
 same-length : tie.Need-same-length
@@ -62,10 +66,11 @@ same-length c = search needs
 
 returns-3 : tie.Need-returns-3
 returns-3 c =
-    let b = c .before .before .before .before .before .before .before .before in
-    read-none _ _ _ _ (b .before .form-refusal .ensures) (b .if1 .left)
-    (passed (c .before .before .before .before .before .before .before .may-read .ensures) (c .before .before .before .before .before .before .if2 .left)) _
-    (c .before .before .before .before .before .state-in .ensures) _ (words-made _ _ _ (c .before .before .parts-in .ensures))
+    let i = c .before .before .before .before in
+    let a = i .before .before in
+    let b = a .before .before .before in
+    read-none _ _ _ _ (b .before .form-refusal .ensures) (b .if1 .left) (passed (a .state-sound-in .ensures _ refl refl refl refl) (i .before .if2 .left)) _
+    (i .state-in .ensures) _ (words-made _ _ _ (c .before .before .parts-in .ensures))
 
 pub read-test-spec : {M : Type 1} → statement M
 read-test-spec =
@@ -74,11 +79,11 @@ read-test-spec =
     form-refusal-requires
     refused-requires
     returns
-    may-read-requires
+    cast-count
+    state-sound-in-requires
     refused-requires-2
     returns-2
     state-in-requires
-    cast-parts-in
     parts-in-requires
     same-length
     returns-3)

@@ -1,7 +1,9 @@
 -- Header, then records.
-use mathlib.Core.Path.{refl, sym}
+use mathlib.Core.Path.{ap, _∙_}
+use Prim.Native.Nat.{ℕ}
 use native.Mathlib.Omega.{arith}
-use Rattle.saved_test.specs.Form.{recordOffset}
+use Rattle.little.specs.Little.{putAt}
+use Rattle.saved_test.specs.Form.{recordOffset, header}
 use Rattle.saved_test.proofs.WritingLaws.{front-put, few-masses}
 use borrow.Author.Needs.{needs}
 use Rattle.saved_test.proofs.writing.write_front.Statement.{statement}
@@ -30,7 +32,7 @@ same-length c = search needs
 returns : tie.Need-returns
 returns c =
     let s = c .before .before .before .before .before .before .before .before .before .before .before .before in
-    front-put (s .args .p) (s .args .s) (s .args .bytes .now) _ _ (c .before .before .before .before .before .before .write-header .ensures _ _ refl (sym (c .before .before .before .before .before .before .before .before .masses-of .ensures .0)) refl refl) (c .before .before .write-records .ensures)
+    front-put (s .args .p) (s .args .s) (s .args .bytes .now) _ _ (c .before .before .before .before .before .before .write-header .ensures ∙ ap (λ (m : ℕ). putAt 0 (header (s .args .p .count) m (s .args .s .n) (s .args .s .ones)) (s .args .bytes .now)) (c .before .before .before .before .before .before .before .before .masses-of .ensures .0)) (c .before .before .write-records .ensures)
 
 pub write-front-spec : {M : Type 1} → statement M
 write-front-spec = tie.close (tie.spec cast-count masses-of-requires write-header-requires write-records-requires same-length returns)

@@ -52,8 +52,7 @@ same-length c = search needs
 
 returns : tie.Need-returns
 returns c =
-    λ p t k m n o.
-    header-put p t _ _ _ _ k m n o _ _ _ _ _ _ (c .before .before .before .before .before .before .before .before .before .before .before .before .before .before .before .before .before .before .write-two .ensures) (c .before .before .before .before .before .before .before .before .before .before .before .before .before .before .write-two2 .ensures)
+    header-put _ _ _ _ _ _ _ _ _ _ (c .before .before .before .before .before .before .before .before .before .before .before .before .before .before .before .before .before .before .write-two .ensures) (c .before .before .before .before .before .before .before .before .before .before .before .before .before .before .write-two2 .ensures)
     (c .before .before .before .before .before .before .before .before .before .before .write-two3 .ensures) (c .before .before .before .before .before .before .write-two4 .ensures) (c .before .before .write-le .ensures)
 
 pub write-header-spec : {M : Type 1} → statement M

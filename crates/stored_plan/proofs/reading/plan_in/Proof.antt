@@ -1,6 +1,10 @@
 -- Each number stands where the definition reads it.
+use mathlib.Core.Path.{_≡_, ap, _∙_}
+use Prim.Native.Nat.{ℕ}
 use native.Mathlib.Omega.{arith}
 use borrow.Author.Needs.{needs}
+use Rattle.plan.specs.Plan.{planRefusal}
+use Rattle.plan.specs.declared.Plan.{Plan}
 use Rattle.stored_plan.specs.Form.{bucketOffset, formSize}
 use Rattle.stored_plan.specs.Reading.{countIn, bucketsIn, planIn}
 use Rattle.stored_plan.proofs.reading.plan_in.Statement.{statement}
@@ -22,69 +26,58 @@ read-u32-requires-2 : tie.Need-read-u32-requires-2
 unfolding formSize bucketOffset countIn bucketsIn
 read-u32-requires-2 c κs = search needs
 
-cast-k : tie.Need-cast-k
-cast-k c = search needs
-
-cast-b : tie.Need-cast-b
-cast-b c = search needs
-
 bucket-offset-requires : tie.Need-bucket-offset-requires
 bucket-offset-requires c κs = search needs
 
-slice-aggregate-fields-in : tie.Need-slice-aggregate-fields-in
-slice-aggregate-fields-in c = search needs
+cast-thresholds-in : tie.Need-cast-thresholds-in
+cast-thresholds-in c = search needs
 
-fields-in-requires : tie.Need-fields-in-requires
+thresholds-in-requires : tie.Need-thresholds-in-requires
 unfolding formSize bucketOffset countIn bucketsIn
-fields-in-requires c κs = (omega arith, λ i l. omega arith)
+thresholds-in-requires c κs = (omega arith, omega arith)
 
-add-long-fields-in : tie.Need-add-long-fields-in
-add-long-fields-in c = search needs
+cast-buckets-in : tie.Need-cast-buckets-in
+cast-buckets-in c = search needs
 
-slice-aggregate-long-fields-in : tie.Need-slice-aggregate-long-fields-in
-slice-aggregate-long-fields-in c = search needs
-
-long-fields-in-requires : tie.Need-long-fields-in-requires
+buckets-in-requires : tie.Need-buckets-in-requires
 unfolding formSize bucketOffset countIn bucketsIn
-long-fields-in-requires c κs = (omega arith, λ i l. omega arith)
+buckets-in-requires c κs = (omega arith, omega arith)
 
-slice-aggregate-fields-in-2 : tie.Need-slice-aggregate-fields-in-2
-slice-aggregate-fields-in-2 c = search needs
+tables-refusal-requires : tie.Need-tables-refusal-requires
+tables-refusal-requires c κs = search needs
 
-fields-in-requires-2 : tie.Need-fields-in-requires-2
-unfolding formSize bucketOffset countIn bucketsIn
-fields-in-requires-2 c κs = (omega arith, λ i l. omega arith)
-
-add-fields-in : tie.Need-add-fields-in
-unfolding formSize bucketOffset countIn bucketsIn
-add-fields-in c = search needs
-
-slice-aggregate-fields-in-3 : tie.Need-slice-aggregate-fields-in-3
-slice-aggregate-fields-in-3 c = search needs
-
-fields-in-requires-3 : tie.Need-fields-in-requires-3
-unfolding formSize bucketOffset countIn bucketsIn
-fields-in-requires-3 c κs = (omega arith, λ i l. omega arith)
+-- the plan in the tables is the one that the bytes hold, and so is its refusal
+judged : {r : ℕ} {p q : Plan} → r ≡ planRefusal p → p ≡ q → (p ≡ q) × (r ≡ planRefusal q)
+judged e same = (same, e ∙ ap planRefusal same)
 
 returns : tie.Need-returns
 unfolding planIn countIn bucketsIn
 returns c =
-    let to-left = c .before .before .before .before in
-    let to-thresholds = to-left .before .before .before .before .before .before in
-    let to-times = to-thresholds .before .before .before in
+    let to-buckets = c .before .before .before .before .before in
+    let to-thresholds = to-buckets .before .before .before in
+    let to-offset = to-thresholds .before .before .before in
+    let to-times = to-offset .before in
     let k = to-times .before .before .before .read-u16 in
     let b = to-times .before .before .read-u162 in
-    rw (
-      c .before .fields-in3 .ensures,
-      to-left .fields-in2 .ensures,
-      to-left .before .before .before .long-fields-in .ensures,
-      to-thresholds .fields-in .ensures,
-      to-thresholds .before .before .bucket-offset .ensures,
+    let start = to-times .before .before .before .before .before in
+    let blank = start .pre .1 in
+    judged
+    (c .tables-refusal .ensures)
+    (rw (
+      to-buckets .buckets-in .ensures .0,
+      to-buckets .buckets-in .ensures .1,
+      to-thresholds .thresholds-in .ensures .0,
+      to-thresholds .thresholds-in .ensures .1,
+      to-offset .bucket-offset .ensures,
       to-times .read-u322 .ensures .0,
       to-times .before .read-u32 .ensures .0,
       b .ensures .0,
       k .ensures .0,
-    )
+      blank .0,
+      blank .1,
+      blank .2,
+      blank .3,
+    ))
 
 pub plan-in-spec : {M : Type 1} → statement M
 plan-in-spec =
@@ -94,17 +87,10 @@ plan-in-spec =
     read-u16-requires-2
     read-u32-requires
     read-u32-requires-2
-    cast-k
-    cast-b
     bucket-offset-requires
-    slice-aggregate-fields-in
-    fields-in-requires
-    add-long-fields-in
-    slice-aggregate-long-fields-in
-    long-fields-in-requires
-    slice-aggregate-fields-in-2
-    fields-in-requires-2
-    add-fields-in
-    slice-aggregate-fields-in-3
-    fields-in-requires-3
+    cast-thresholds-in
+    thresholds-in-requires
+    cast-buckets-in
+    buckets-in-requires
+    tables-refusal-requires
     returns)

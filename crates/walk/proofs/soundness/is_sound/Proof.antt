@@ -1,14 +1,14 @@
--- The tests on the boundaries leave at most 769 live counts, so the live words may be summed up; the words passed are the row's, also
+-- The tests on the boundaries leave at most 769 live counts, so the sum of the live words is exact; the words passed are the row's, also
 -- where fewer are lent.
 use mathlib.Core.Path.{_≡_, sym, ap, _∙_}
-use mathlib.Core.Bool.{Bool, true, false}
+use mathlib.Core.Bool.{Bool, true, false, _&&_}
 use mathlib.Core.List.{List}
 use Prim.Native.Nat.{ℕ, _+_, _-_, _≤_}
 use native.Mathlib.Omega.{arith}
 use borrow.Author.Needs.{needs}
 use borrow.Author.Tests.{not-true, not-false}
 use lib.ListN.{length, take}
-use lib.Seq.{length-take-le, take-all}
+use lib.Seq.{take-all}
 use Rattle.walk.specs.Numbers.{le?, choose, sum, allUpTo}
 use Rattle.walk.specs.Units.{M, wide, massLimit}
 use Rattle.walk.specs.Record.{firstAbove, rowOf}
@@ -39,13 +39,9 @@ first k l m = go (le? k (length l)) (test k (length l))
 -- the words passed decide
 module _ (e n s : ℕ) (w : Walked) (words : List ℕ) (m : ℕ) (f : First (w .upper - firstAbove (w .lower)) words m)
     (passed : boundariesSound e n s w ≡ true) where
-  too-large : allUpTo massLimit (take m words) ≡ false → false ≡ isSound e n s w words
+  answered : (r : Bool) → r ≡ (allUpTo massLimit (take m words) && le? M (sum (take m words) + w .over + w .under)) → r ≡ isSound e n s w words
   unfolding isSound rowOf
-  too-large p = rw (passed, ← (f .same), p)
-
-  answered : allUpTo massLimit (take m words) ≡ true → (r : Bool) → r ≡ le? M (sum (take m words) + w .over + w .under) → r ≡ isSound e n s w words
-  unfolding isSound rowOf
-  answered p r q = rw (passed, ← (f .same), p) q
+  answered r q = rw (passed, ← (f .same)) q
 
 boundaries-sound-requires : tie.Need-boundaries-sound-requires
 boundaries-sound-requires c κs = search needs
@@ -71,53 +67,22 @@ words-passed : (c : tie.After-live-words)
     → let a = start (c .before) .args in First (a .w .upper - firstAbove (a .w .lower)) (a .part .now) (c .live-words .result)
 words-passed c = first _ _ _ (c .live-words .ensures)
 
-few-enough : (c : tie.After-live-words) → length (take (c .live-words .result) (start (c .before) .args .part .now)) ≤ wide
+few-enough : (c : tie.After-live-words) → c .live-words .result ≤ wide
 unfolding wide
-few-enough c =
-    let w = words-passed c in
-    omega (arith, length-take-le (c .live-words .result) (start (c .before) .args .part .now) (w .there), w .few, between (c .before) .fits)
+few-enough c = omega (arith, words-passed c .few, between (c .before) .fits)
 
-slice-aggregate-all-fit : tie.Need-slice-aggregate-all-fit
-slice-aggregate-all-fit c = sym (length-take-le _ _ (words-passed (c .before) .there))
+weigh-first-requires : tie.Need-weigh-first-requires
+weigh-first-requires c κs = words-passed c .there
 
-all-fit-requires : tie.Need-all-fit-requires
-all-fit-requires c κs = search needs
+masses-sound-requires : tie.Need-masses-sound-requires
+masses-sound-requires c κs = search needs
 
 returns-2 : tie.Need-returns-2
 returns-2 c =
-    let l = c .before .before .before in
-    too-large _ _ _ _ _ _ (words-passed l) (passed (l .before)) (sym (c .before .all-fit .ensures) ∙ not-true _ (c .if2 .taken))
-
-fit : (c : tie.Else2)
-    → let l = c .before .before .before in allUpTo massLimit (take (l .live-words .result) (start (l .before) .args .part .now)) ≡ true
-fit c = sym (c .before .all-fit .ensures) ∙ not-false _ (c .if2 .left)
-
-slice-aggregate-sum-up : tie.Need-slice-aggregate-sum-up
-slice-aggregate-sum-up c = sym (length-take-le _ _ (words-passed (c .before .before .before .before) .there))
-
-sum-up-requires : tie.Need-sum-up-requires
-sum-up-requires c κs = (few-enough (c .before .before .before .before), fit (c .before))
-
-is-whole-requires : tie.Need-is-whole-requires
-is-whole-requires c κs = search needs
-
-returns-3 : tie.Need-returns-3
-returns-3 c =
-    let e = c .before .before .before in
-    let l = e .before .before .before in
-    answered _ _ _ _ _ _ (words-passed l) (passed (l .before)) (fit e) _ (rw (c .before .sum-up .ensures) at (c .is-whole .ensures))
+    let l = c .before .before in
+    answered _ _ _ _ _ _ (words-passed l) (passed (l .before)) _ (c .masses-sound .ensures _ _ (few-enough l) (c .before .weigh-first .ensures))
 
 pub is-sound-spec : {M : Type 1} → statement M
 is-sound-spec =
     tie.close
-    (tie.spec
-    boundaries-sound-requires
-    returns
-    live-words-requires
-    slice-aggregate-all-fit
-    all-fit-requires
-    returns-2
-    slice-aggregate-sum-up
-    sum-up-requires
-    is-whole-requires
-    returns-3)
+    (tie.spec boundaries-sound-requires returns live-words-requires weigh-first-requires masses-sound-requires returns-2)
