@@ -22,6 +22,7 @@ struct record {
     int32_t lower;
     uint32_t upper;
     uint64_t over, under;
+    uint32_t rounded;
 };
 
 struct state {
@@ -86,16 +87,23 @@ static int is_wide(const struct record *r) {
     return (int64_t)r->upper - r->lower == WIDE + 1;
 }
 
+/* A new mass; whether it was rounded is added to a count, without a branch. */
+static uint64_t mass_up(uint64_t sum, uint32_t *rounded) {
+    uint64_t mass = (sum + 999999) / 1000000;
+    *rounded += sum < mass * 1000000;
+    return mass;
+}
+
 /* One step. Words behind the live masses are zero after it if it `clears` them: a saved test has none. */
 static void walk(uint64_t *restrict mass, struct record *r, uint32_t a, uint64_t e, int clears) {
-    uint32_t first = r->lower + 1, n = r->upper - first;
+    uint32_t first = r->lower + 1, n = r->upper - first, rounded = 0;
     uint64_t prev = 0, stay = MILLION - a, come = a;
     for (uint32_t i = 0; i < n; i++) {
         uint64_t x = mass[i];
-        mass[i] = (x * stay + prev * come + 999999) / 1000000;
+        mass[i] = mass_up(x * stay + prev * come, &rounded);
         prev = x;
     }
-    mass[n] = (prev * come + 999999) / 1000000;
+    mass[n] = mass_up(prev * come, &rounded);
     uint32_t hi = n + 1, lo = 0;
     uint64_t over = r->over, under = r->under;
     while (hi > 0 && over + mass[hi - 1] <= e) over += mass[--hi];
@@ -106,6 +114,7 @@ static void walk(uint64_t *restrict mass, struct record *r, uint32_t a, uint64_t
     r->lower += lo;
     r->over = over;
     r->under = under;
+    r->rounded += rounded;
 }
 
 /* --- the answer --- */
@@ -154,6 +163,7 @@ static int state_sound(const struct plan *p, const struct state *s, const uint64
     if (s->n > p->horizon || s->ones > s->n) return 0;
     for (uint32_t i = 0; i < p->count; i++) {
         const struct record *r = &s->record[i];
+        if (r->rounded > (uint64_t)WIDE * s->n) return 0;
         if (r->mark != OPEN_MARK) {
             if (r->at < 1 || r->at > s->n) return 0;
         } else if (!is_sound(words + WIDE * i, r, s->n, s->ones, spending(p, i, s->n))) {

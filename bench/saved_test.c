@@ -3,7 +3,7 @@
 #include "bucket_test.h"
 
 #define HEADER 24
-#define RECORD 32
+#define RECORD 36
 #define MASS sizeof(uint64_t)
 
 #if __BYTE_ORDER__ != __ORDER_LITTLE_ENDIAN__
@@ -64,6 +64,7 @@ static int64_t get_record(const uint8_t *b, struct record *r) {
     r->upper = get4(b + 12);
     r->over = get8(b + 16);
     r->under = get8(b + 24);
+    r->rounded = get4(b + 32);
     if (mark > AT_MOST) return -1;
     r->mark = (enum mark)mark;
     if (mark != OPEN_MARK) return 0;
@@ -118,6 +119,7 @@ static int write_test(const struct plan *p, const struct state *s, const uint64_
         put4(at + 12, r->upper);
         put8(at + 16, r->over);
         put8(at + 24, r->under);
+        put4(at + 32, r->rounded);
         memcpy(b + offset, words + WIDE * i, MASS * masses_of(r));
         offset += MASS * masses_of(r);
     }

@@ -31,10 +31,11 @@ extern "C" {
 #define VIMORAKE_REFUSED_ROOM 12u       /* fewer bytes lent than the new form has */
 #define VIMORAKE_REFUSED_CLOSE 14u      /* the plan: a threshold less than 100 millionths above the one before */
 #define VIMORAKE_REFUSED_SAVED_FORM 15u /* the saved bytes: a count, offset, size or length that does not fit, an unknown mark, or
-                                           open boundaries with fewer than 1 or more than 769 masses */
+                                           open boundaries with fewer than 1 or more than 769 masses;
+                                           also a form of an earlier layout */
 
 #define VIMORAKE_LARGEST_PLAN 264u   /* bytes of the longest plan */
-#define VIMORAKE_LARGEST_FORM 61864u /* bytes of the longest saved form: with so many lent, nothing is refused for room */
+#define VIMORAKE_LARGEST_FORM 61904u /* bytes of the longest saved form: with so many lent, nothing is refused for room */
 
 /* Begins a test. Returns VIMORAKE_OPEN or a refusal. */
 uint32_t vimorake_begin(const uint8_t *plan, size_t plan_size, uint8_t *lent, size_t lent_size);

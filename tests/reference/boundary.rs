@@ -39,6 +39,8 @@ pub struct Literal {
     pub mass: BTreeMap<i64, u128>,
     pub spent_above: u128,
     pub spent_below: u128,
+    /// Masses rounded so far.
+    pub rounded: u64,
 }
 
 impl Literal {
@@ -53,19 +55,29 @@ impl Literal {
             mass: BTreeMap::from([(0, WHOLE)]),
             spent_above: 0,
             spent_below: 0,
+            rounded: 0,
         }
     }
 
-    /// The new masses of rule 1, from the map of live counts.
-    pub fn spread(&self) -> BTreeMap<i64, u128> {
+    /// What rule 1 divides by a million, from the map of live counts.
+    fn sum(&self, s: i64) -> u128 {
         let old = |s: i64| self.mass.get(&s).copied().unwrap_or(0);
-        (self.lower + 1..=self.upper)
-            .map(|s| (s, rounded_up(old(s) * (MILLION - self.at) + old(s - 1) * self.at)))
-            .collect()
+        old(s) * (MILLION - self.at) + old(s - 1) * self.at
+    }
+
+    /// The new masses of rule 1.
+    pub fn spread(&self) -> BTreeMap<i64, u128> {
+        (self.lower + 1..=self.upper).map(|s| (s, rounded_up(self.sum(s)))).collect()
+    }
+
+    /// Of new masses, the counts at which they are over their share of the sum.
+    pub fn counts_rounded(&self, new: &BTreeMap<i64, u128>) -> Vec<i64> {
+        new.iter().filter(|(s, m)| **m * MILLION > self.sum(**s)).map(|(s, _)| *s).collect()
     }
 
     pub fn advance(&mut self) {
         let new = self.spread();
+        self.rounded += self.counts_rounded(&new).len() as u64;
         self.step += 1;
         let limit = spending(self.allowance, self.delay, self.step as u128);
         let t = self.step;
@@ -123,6 +135,13 @@ fn slipped(slip: Slip, stay: u64, rise: u64) -> u64 {
     }
 }
 
+/// A mass, and by how much it is over the sum rounded down: without a slip, 1 where it was rounded.
+#[inline(always)]
+fn cell(slip: Slip, stay: u64, rise: u64) -> (u64, u64) {
+    let mass = slipped(slip, stay, rise);
+    (mass, mass - (stay + rise) / NARROW)
+}
+
 /// The least j of a range from which on a test holds, or the one after the range.
 fn least(from: i64, to: i64, holds: impl Fn(i64) -> bool) -> i64 {
     let (mut low, mut high) = (from, to + 1);
@@ -151,6 +170,7 @@ pub struct Quick {
     mass: Vec<u64>,
     pub spent_above: u128,
     pub spent_below: u128,
+    pub rounded: u64,
 }
 
 impl Quick {
@@ -167,6 +187,7 @@ impl Quick {
             mass: vec![WHOLE as u64],
             spent_above: 0,
             spent_below: 0,
+            rounded: 0,
         }
     }
 
@@ -177,16 +198,19 @@ impl Quick {
         }
     }
 
-    /// The new masses from the count `first` on.
-    fn spread(&self) -> Vec<u64> {
+    /// The new masses from the count `first` on, and how many of them were rounded.
+    fn spread(&self) -> (Vec<u64>, u64) {
         let mut new = Vec::with_capacity(self.mass.len() + 1);
-        let mut before = 0;
+        let (mut before, mut rounded) = (0, 0);
         for here in &self.mass {
-            new.push(slipped(self.slip, here * (NARROW - self.at), before * self.at));
+            let (mass, more) = cell(self.slip, here * (NARROW - self.at), before * self.at);
+            new.push(mass);
+            rounded += more;
             before = *here;
         }
-        new.push(slipped(self.slip, 0, before * self.at));
-        new
+        let (mass, more) = cell(self.slip, 0, before * self.at);
+        new.push(mass);
+        (new, rounded + more)
     }
 
     pub fn advance(&mut self) {
@@ -194,7 +218,8 @@ impl Quick {
         let t = self.step;
         let limit = spending(self.allowance, self.delay, t as u128);
         let first = self.first;
-        let new = self.spread();
+        let (new, rounded) = self.spread();
+        self.rounded += rounded;
         let mut sums = Vec::with_capacity(new.len() + 1);
         let mut sum = 0;
         sums.push(sum);
@@ -217,13 +242,14 @@ impl Quick {
         self.mass = new[(self.first - first) as usize..(self.upper - first) as usize].to_vec();
     }
 
-    /// The same boundaries, masses and spent masses?
+    /// The same boundaries, masses, spent masses and masses rounded?
     pub fn agrees(&self, other: &Literal) -> bool {
         self.step == other.step
             && self.upper == other.upper
             && self.lower == other.lower
             && self.spent_above == other.spent_above
             && self.spent_below == other.spent_below
+            && self.rounded == other.rounded
             && (0..=self.step).all(|s| self.mass(s) == other.mass.get(&s).copied().unwrap_or(0))
     }
 }

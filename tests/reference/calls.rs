@@ -5,14 +5,14 @@ use crate::damage::put;
 use crate::draft::plan_f;
 use crate::form::{length, LONGEST};
 use crate::form_damage::in_turn;
-use crate::host::{self, plan_of, State, OPEN};
+use crate::host::{self, draft_of, plan_of, State, OPEN};
 use crate::judge::{self, Fault, PART};
 use crate::kept::{self, code};
 use crate::outcomes::kind_of_refusal;
 use crate::rng::Rng;
 use crate::rows::{Outcome, Rows, MET, OUTCOMES};
 use crate::saved_cases::{any_run, any_scene, numbers_of, plan_bytes, sound_scene, OTHER_DRAWS};
-use crate::saved_examples::{bytes_of, small_forms, AFTER_0, FORMS, PLAN_F, REPLACED};
+use crate::saved_examples::{bytes_of, small_forms, AFTER_0, AFTER_11111, FORMS, OLDER, PLAN_F, REPLACED};
 use crate::scenes::Scene;
 use crate::tally::conclude;
 use crate::wrong::{Wrong, BEGIN, CHAIN, DRAW};
@@ -86,12 +86,13 @@ fn draw(rows: &mut Rows, rng: &mut Rng, entry: &'static str, call: Call, room: u
 fn compare_examples(rows: &mut Rows, rng: &mut Rng) {
     let plan = bytes_of(PLAN_F);
     rows.holds(BEGIN, plan == plan_f().store(), || "plan F is not as printed".into());
-    for (plan, room, number) in [(&plan[..], 63, 12), (&plan[..43], 63, 7), (&[], 64, 7)] {
+    for (plan, room, number) in [(&plan[..], 67, 12), (&plan[..43], 67, 7), (&[], 68, 7)] {
         let got = begin(rows, rng, plan, room).0;
         rows.holds(BEGIN, got == number, || format!("{} bytes of the plan, {room} lent: {got} for {number}", plan.len()));
     }
-    for (draws, number, form) in FORMS {
-        let mut last = begin(rows, rng, &plan, 64);
+    for (draft, draws, number, form) in FORMS {
+        let (plan, k) = (draft().store(), draft().thresholds.len());
+        let mut last = begin(rows, rng, &plan, length(k, k));
         for d in draws {
             rows.holds(DRAW, last.0 == 100, || format!("{draws:?}: {} before the last", last.0));
             last = draw(rows, rng, DRAW, Call { plan: &plan, saved: form_in(&last.1), d: *d }, LONGEST);
@@ -99,10 +100,16 @@ fn compare_examples(rows: &mut Rows, rng: &mut Rng) {
         let same = last.0 == number && form_in(&last.1) == bytes_of(form);
         rows.holds(DRAW, same, || format!("{draws:?}: {} with {:?}", last.0, form_in(&last.1)));
     }
-    let (ended, open) = (bytes_of(FORMS[2].2), [bytes_of(AFTER_0), vec![0]].concat());
-    let [ended, cut, open, short, long] = [&ended[..56], &ended[..55], &open[..72], &open[..71], &open[..73]];
-    let ended = [(ended, 1, 64, 10), (ended, 2, 64, 9), (ended, 1, 0, 10), (cut, 2, 64, 15)];
-    let open = [(open, 0, 80, 100), (open, 0, 79, 12), (short, 0, 80, 15), (long, 0, 80, 15), (long, 2, 80, 15)];
+    for (draft, _, form) in OLDER {
+        for d in [0, 1, 2] {
+            let got = draw(rows, rng, DRAW, Call { plan: &draft().store(), saved: &bytes_of(form), d }, LONGEST).0;
+            rows.holds(DRAW, got == 15, || format!("older layout, draw {d}: {got}: {form}"));
+        }
+    }
+    let (ended, open) = (bytes_of(AFTER_11111), [bytes_of(AFTER_0), vec![0]].concat());
+    let [ended, cut, open, short, long] = [&ended[..60], &ended[..59], &open[..76], &open[..75], &open[..77]];
+    let ended = [(ended, 1, 68, 10), (ended, 2, 68, 9), (ended, 1, 0, 10), (cut, 2, 68, 15)];
+    let open = [(open, 0, 84, 100), (open, 0, 83, 12), (short, 0, 84, 15), (long, 0, 84, 15), (long, 2, 84, 15)];
     for (saved, d, room, number) in ended.into_iter().chain(open) {
         let got = draw(rows, rng, DRAW, Call { plan: &plan, saved, d }, room).0;
         rows.holds(DRAW, got == number, || format!("{saved:?}, draw {d}, {room} lent: {got} for {number}"));
@@ -111,7 +118,7 @@ fn compare_examples(rows: &mut Rows, rng: &mut Rng) {
         let mut saved = bytes_of(AFTER_0);
         put(&mut saved, at, size, other);
         for (d, number) in [(0, number), (2, if number == 15 { 15 } else { 9 })] {
-            let got = draw(rows, rng, DRAW, Call { plan: &plan, saved: &saved, d }, 80).0;
+            let got = draw(rows, rng, DRAW, Call { plan: &plan, saved: &saved, d }, 84).0;
             rows.holds(DRAW, got == number, || format!("{other} at {at}, draw {d}: {got} for {number}"));
         }
     }
@@ -178,7 +185,7 @@ fn new_length(plan: &[u8], saved: &[u8], d: u32) -> Option<usize> {
 
 fn compare_call(rows: &mut Rows, rng: &mut Rng, plan: &[u8], saved: &[u8], d: u32) {
     let new = new_length(plan, saved, d);
-    let room = any_room(rng, new.unwrap_or(64), saved.len());
+    let room = any_room(rng, new.unwrap_or(68), saved.len());
     let got = draw(rows, rng, DRAW, Call { plan, saved, d }, room).0;
     if let Some(new) = new {
         let longer = match new.cmp(&saved.len()) {
@@ -199,8 +206,20 @@ fn compare_call(rows: &mut Rows, rng: &mut Rng, plan: &[u8], saved: &[u8], d: u3
     }
 }
 
+/// The older layout is refused, whatever the test, the draw and the room.
+fn compare_older(rows: &mut Rows, rng: &mut Rng, good: &Scene) {
+    let plan = draft_of(&good.plan).expect("counts that keep rule 1").store();
+    let (saved, d, room) = (numbers_of(good).store_older(), rng.pick(&[0, 1, 2]), rng.pick(&[0, LONGEST]));
+    let got = draw(rows, rng, DRAW, Call { plan: &plan, saved: &saved, d }, room).0;
+    rows.count(DRAW, MET, format!("older layout: {}", kind(got)), true);
+    rows.holds(DRAW, got == 15, || format!("older layout, draw {d}: {got}: {plan:?} {saved:?}"));
+}
+
 fn compare_scene(rows: &mut Rows, rng: &mut Rng) {
     let good = sound_scene(rng);
+    if rng.chance(1, 4) {
+        compare_older(rows, rng, &good);
+    }
     for _ in 0..SPOILS {
         let (scene, saved) = any_scene(rng, &good);
         let plan = plan_bytes(rng, &scene, &good);
@@ -219,6 +238,7 @@ fn needed(rows: &mut Rows) {
         rows.need(entry, OUTCOMES, refusals, NEEDED);
         rows.need_noticed(entry, NOTICED);
     }
+    rows.need_noticed(CHAIN, NOTICED);
     rows.need(BEGIN, OUTCOMES, "open", 1000);
     rows.need(DRAW, OUTCOMES, "open, decided, crossed, wide, spent, refused 15, refused 9, refused 10, refused 11", NEEDED);
     rows.need(CHAIN, OUTCOMES, "open, decided, refused 9, refused 10, refused 12", NEEDED);
@@ -228,6 +248,7 @@ fn needed(rows: &mut Rows) {
             rows.need(DRAW, MET, &format!("{new} form with {lent} lent"), NEEDED);
         }
     }
+    rows.need(DRAW, MET, "older layout: refused 15", 500);
     OTHER_DRAWS.iter().for_each(|d| rows.need(DRAW, MET, &format!("{d} refused"), NEEDED));
 }
 

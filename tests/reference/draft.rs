@@ -1,5 +1,7 @@
 //! A plan before it is stored, and the plans that several checks use.
 
+use crate::plan::LARGEST_ALLOWANCE;
+
 /// A plan before it is stored; nothing in it need keep the rules.
 #[derive(Clone, Debug)]
 pub struct Draft {
@@ -46,6 +48,16 @@ pub fn plan_f() -> Draft {
     Draft { thresholds: vec![(50_000, 4_398_046_511)], delay: 1000, horizon: 200, buckets: two_buckets(50_000) }
 }
 
+/// Two thresholds, each with as large an allowance as there is.
+pub fn plan_g() -> Draft {
+    Draft {
+        thresholds: vec![(100_000, LARGEST_ALLOWANCE), (400_000, LARGEST_ALLOWANCE)],
+        delay: 1,
+        horizon: 200,
+        buckets: vec![(0, 100_000), (100_000, 400_000), (400_000, 1_000_000)],
+    }
+}
+
 pub const STAR_THRESHOLDS: [u32; 9] = [500, 1000, 2000, 8000, 10_000, 12_000, 45_000, 50_000, 55_000];
 pub const STAR_BUCKETS: [(u32, u32); 7] = [
     (0, 1000),
@@ -66,4 +78,9 @@ pub fn star_plan() -> Draft {
         horizon: 50_000,
         buckets: STAR_BUCKETS.to_vec(),
     }
+}
+
+/// With one of its thresholds.
+pub fn star_of(at: u32) -> Draft {
+    Draft { thresholds: vec![(at, STAR_ALLOWANCE)], buckets: two_buckets(at), ..star_plan() }
 }

@@ -18,19 +18,28 @@ pub const RECORD_SIZE: usize = 7;
 pub const MASS_SIZE: usize = 8;
 
 /// Bytes of a record's numbers, in their order.
-pub const RECORD: [usize; 6] = [4, 4, 4, 4, 8, 8];
-/// The first of a record's numbers; behind them are the upper and the lower spent mass.
+pub const RECORD: [usize; 7] = [4, 4, 4, 4, 8, 8, 4];
+pub const RECORD_BYTES: usize = 36;
+/// Places of a record's numbers; the two left out are its spent masses.
 pub const MARK: usize = 0;
 pub const STEP: usize = 1;
 pub const LOWER: usize = 2;
 pub const UPPER: usize = 3;
+pub const ROUNDED: usize = 6;
+
+/// The numbers of one record.
+pub type InRecord = [u64; RECORD.len()];
+
+/// Bytes of a record's numbers in the older layout, which had no masses rounded.
+const OLDER: [usize; 7] = [4, 4, 4, 4, 8, 8, 0];
+const OLDER_BYTES: usize = 32;
 
 /// The whole length of a form.
 pub fn length(k: usize, masses: usize) -> usize {
-    24 + 32 * k + 8 * masses
+    24 + RECORD_BYTES * k + 8 * masses
 }
 
-pub const LONGEST: usize = 61_864;
+pub const LONGEST: usize = 61_904;
 
 /// The reasons of refusal 15. Three lengths must be the same: the header's number, that of the bytes, and the one that
 /// plan and boundaries ask.
@@ -87,6 +96,7 @@ fn turned(mut masses: Vec<u64>, wrong: Wrong) -> Vec<u64> {
 fn swapped(mut r: Record, wrong: Wrong) -> Record {
     match wrong {
         Wrong::SpentSwapped => (r.over, r.under) = (r.under, r.over),
+        Wrong::RoundedLost => r.rounded = 0,
         Wrong::SettledBare if r.mark != OPEN => r = Record { mark: r.mark, step: r.step, ..Record::default() },
         _ => {}
     }
@@ -97,7 +107,7 @@ fn swapped(mut r: Record, wrong: Wrong) -> Record {
 #[derive(Clone, Debug)]
 pub struct Numbers {
     pub header: [u64; 9],
-    pub records: Vec<[u64; 6]>,
+    pub records: Vec<InRecord>,
     pub masses: Vec<u64>,
 }
 
@@ -106,7 +116,8 @@ impl Numbers {
     pub fn of(k: usize, s: &State, words: &[u64], wrong: Wrong) -> Numbers {
         let record = |r: &Record| {
             let r = swapped(*r, wrong);
-            [r.mark as u64, r.step as u64, r.lower as u32 as u64, r.upper as u64, r.over, r.under]
+            let [mark, step, lower, upper] = [r.mark, r.step, r.lower as u32, r.upper].map(u64::from);
+            [mark, step, lower, upper, r.over, r.under, r.rounded.into()]
         };
         let masses = |i: usize| match s.records[i].mark == OPEN || wrong == Wrong::SettledStored {
             true => turned(live(&s.records[i], &words[PART * i..PART * (i + 1)]).to_vec(), wrong),
@@ -114,7 +125,7 @@ impl Numbers {
         };
         let masses: Vec<Vec<u64>> = places(k, wrong).into_iter().map(masses).collect();
         let mut out = Numbers {
-            header: [k as u64, 0, 24, 24 + 32 * k as u64, 0, s.n as u64, s.ones as u64, 32, 8],
+            header: [k as u64, 0, 24, length(k, 0) as u64, 0, s.n.into(), s.ones.into(), RECORD_BYTES as u64, 8],
             records: s.records[..k].iter().map(record).collect(),
             masses: masses.concat(),
         };
@@ -129,11 +140,24 @@ impl Numbers {
     }
 
     pub fn store(&self) -> Vec<u8> {
+        self.stored(RECORD)
+    }
+
+    /// The same test in the older layout.
+    pub fn store_older(&self) -> Vec<u8> {
+        let mut older = self.clone();
+        let (k, fewer) = (self.records.len() as u64, (RECORD_BYTES - OLDER_BYTES) as u64);
+        let places = [(RECORD_SIZE, fewer), (MASSES_AT, fewer * k), (LENGTH, fewer * k)];
+        places.into_iter().for_each(|(place, by)| older.header[place] = older.header[place].wrapping_sub(by));
+        older.stored(OLDER)
+    }
+
+    fn stored(&self, sizes: [usize; 7]) -> Vec<u8> {
         let mut out = Vec::new();
         let mut put = |number: u64, size: usize| out.extend(&number.to_le_bytes()[..size]);
         self.header.into_iter().zip(HEADER).for_each(|(number, size)| put(number, size));
         for record in &self.records {
-            record.iter().zip(RECORD).for_each(|(number, size)| put(*number, size));
+            record.iter().zip(sizes).for_each(|(number, size)| put(*number, size));
         }
         self.masses.iter().for_each(|mass| put(*mass, 8));
         out
@@ -151,6 +175,10 @@ pub struct Held {
 
 fn number(bytes: &[u8], from: i128, size: usize) -> u64 {
     let there = bytes.get(usize::try_from(from).unwrap_or(usize::MAX)..).unwrap_or(&[]);
+    // Most numbers are masses that are there.
+    if let (8, Some(mass)) = (size, there.first_chunk()) {
+        return u64::from_le_bytes(*mass);
+    }
     let size = size.min(there.len());
     let mut whole = [0; 8];
     whole[..size].copy_from_slice(&there[..size]);
@@ -158,8 +186,8 @@ fn number(bytes: &[u8], from: i128, size: usize) -> u64 {
 }
 
 /// What a record's numbers say, how many masses they count, and what is wrong with them.
-fn record_of(numbers: [u64; 6], wrong: Wrong) -> (Record, i128, Vec<Reason>) {
-    let [code, step, lower, upper, over, under] = numbers;
+fn record_of(numbers: InRecord, wrong: Wrong) -> (Record, i128, Vec<Reason>) {
+    let [code, step, lower, upper, over, under, rounded] = numbers;
     let code = if wrong == Wrong::MarkOfOneByte { code % 256 } else { code };
     let (mark, known) = match code {
         0 => (OPEN, true),
@@ -187,6 +215,7 @@ fn record_of(numbers: [u64; 6], wrong: Wrong) -> (Record, i128, Vec<Reason>) {
         upper: upper as u32,
         over,
         under,
+        rounded: rounded as u32,
     };
     let counted = if open || wrong == Wrong::SettledStored { count.max(0) } else { 0 };
     (swapped(r, wrong), counted, broken.into_iter().filter(|(_, so)| *so).map(|(reason, _)| reason).collect())
@@ -199,7 +228,9 @@ pub fn held(k: usize, bytes: &[u8], wrong: Wrong) -> Held {
         number(bytes, from - size as i128, size)
     };
     let header = HEADER.map(&mut next);
-    let records: Vec<_> = (0..k).map(|_| record_of(RECORD.map(&mut next), wrong)).collect();
+    let older = wrong == Wrong::OlderRead && header[RECORD_SIZE] == OLDER_BYTES as u64;
+    let (sizes, size) = if older { (OLDER, OLDER_BYTES) } else { (RECORD, RECORD_BYTES) };
+    let records: Vec<_> = (0..k).map(|_| record_of(sizes.map(&mut next), wrong)).collect();
     let mut state = State { n: header[N] as u32, ones: header[ONES] as u32, records: [FIRST; 10], ..State::default() };
     let (mut words, mut count) = (vec![0; PART * k], 0);
     for i in places(k, wrong) {
@@ -211,7 +242,7 @@ pub fn held(k: usize, bytes: &[u8], wrong: Wrong) -> Held {
         }
         count += masses;
     }
-    let asked = [k as i128, count, 24, from, from + 8 * count, 0, 0, 32, 8];
+    let asked = [k as i128, count, 24, from, from + 8 * count, 0, 0, size as i128, 8];
     let mut reasons: Vec<Reason> = records.into_iter().flat_map(|(.., broken)| broken).collect();
     let numbers = [
         (Reason::K, K),

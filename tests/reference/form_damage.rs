@@ -1,9 +1,9 @@
 //! Ways to damage a saved form: its numbers, with the others made to fit or not, and its bytes.
 
 use crate::damage::{extend, flip_bits, odd_number, put, truncate};
-use crate::form::{Numbers, COUNT, HEADER, K, LENGTH, LOWER, MARK, N, RECORD, STEP, UPPER};
+use crate::form::{InRecord, Numbers, COUNT, HEADER, K, LENGTH, LOWER, MARK, N, RECORD, ROUNDED, STEP, UPPER};
 use crate::host::{ABOVE, AT_MOST, OPEN};
-use crate::judge::PART;
+use crate::judge::{most_rounded, PART};
 use crate::rng::Rng;
 
 /// The numbers beside this one, the one with its sign turned, and any.
@@ -19,7 +19,7 @@ fn header(rng: &mut Rng, form: &mut Numbers) {
     form.header[place] = rng.pick(&off);
 }
 
-fn any_record<'a>(rng: &mut Rng, form: &'a mut Numbers) -> &'a mut [u64; 6] {
+fn any_record<'a>(rng: &mut Rng, form: &'a mut Numbers) -> &'a mut InRecord {
     let i = rng.below(form.records.len() as u64) as usize;
     &mut form.records[i]
 }
@@ -47,14 +47,20 @@ fn step(rng: &mut Rng, form: &mut Numbers) {
     r[STEP] = rng.pick(&[0, 1, n, n + 1, 256, 1 << 31, u32::MAX as u64]) & u32::MAX as u64;
 }
 
+fn rounded(rng: &mut Rng, form: &mut Numbers) {
+    let most = most_rounded(form.header[N] as u32);
+    let r = any_record(rng, form);
+    r[ROUNDED] = rng.pick(&[most, most + 1, most + 1, 1 << 31, u32::MAX as u64]) & u32::MAX as u64;
+}
+
 /// Masses that the open records count, none for a settled one.
 fn counted(form: &Numbers) -> i128 {
-    let count = |r: &[u64; 6]| r[UPPER] as i128 - r[LOWER] as u32 as i32 as i128 - 1;
+    let count = |r: &InRecord| r[UPPER] as i128 - r[LOWER] as u32 as i32 as i128 - 1;
     form.records.iter().filter(|r| r[MARK] == OPEN as u64).map(|r| count(r).max(0)).sum()
 }
 
 /// Boundaries that make an open record count so many masses, if there are such.
-fn boundaries(rng: &mut Rng, r: &[u64; 6], count: i128) -> Option<(i32, u32)> {
+fn boundaries(rng: &mut Rng, r: &InRecord, count: i128) -> Option<(i32, u32)> {
     let (lower, upper) = (r[LOWER] as u32 as i32, r[UPPER] as u32);
     let lower = rng.pick(&[lower, lower, -1, -2, 0, -770, i32::MIN, i32::MIN + 1, i32::MAX, i32::MAX - 1]) as i128;
     let upper = rng.pick(&[upper, upper, 0, 1, u32::MAX, u32::MAX - 1, 1 << 31]) as i128;
@@ -104,7 +110,8 @@ fn records(rng: &mut Rng, form: &mut Numbers) {
 }
 
 pub fn damage(rng: &mut Rng, form: &mut Numbers) {
-    let kinds = [header, header, header, record, mark, mark, step, step, count, count, count, masses, records];
+    let kinds =
+        [header, header, header, record, mark, mark, step, step, rounded, count, count, count, masses, records];
     if !form.records.is_empty() {
         rng.pick(&kinds)(rng, form);
     }
@@ -112,7 +119,7 @@ pub fn damage(rng: &mut Rng, form: &mut Numbers) {
 
 /// Longer or shorter by a few bytes, the header's length with it or not; or damaged anyhow.
 pub fn damage_bytes(rng: &mut Rng, bytes: &mut Vec<u8>) {
-    let (now, by) = (bytes.len(), rng.pick(&[1, 2, 4, 8, 32]));
+    let (now, by) = (bytes.len(), rng.pick(&[1, 2, 4, 8, 32, 36]));
     match rng.below(8) {
         0..=1 => bytes.resize(now + by, 0),
         2..=3 => bytes.truncate(now.saturating_sub(by)),

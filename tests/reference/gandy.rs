@@ -1,7 +1,7 @@
 //! The library's boundaries beside the published rule by exact fractions, and the mean number of draws beside the published table.
 
 use crate::big::Big;
-use crate::draft::{star_plan, two_buckets, Draft, STAR_ALLOWANCE, STAR_DELAY, STAR_THRESHOLDS};
+use crate::draft::{star_of, Draft, STAR_ALLOWANCE, STAR_DELAY, STAR_THRESHOLDS};
 use crate::exact::Exact;
 use crate::host::{self, Plan, State, OPEN};
 use crate::judge::PART;
@@ -13,30 +13,35 @@ use std::time::Instant;
 const STEPS: u64 = 1000;
 
 /// A test of one threshold in the library that is never settled.
-struct Unsettled {
+pub struct Unsettled {
     plan: Plan,
     state: State,
     words: Vec<u64>,
 }
 
 impl Unsettled {
-    fn begin(at: u32) -> Unsettled {
-        let plan = host::plan_of(&Draft { thresholds: vec![(at, STAR_ALLOWANCE)], buckets: two_buckets(at), ..star_plan() });
+    pub fn begin(draft: &Draft) -> Unsettled {
+        let plan = host::plan_of(draft);
         let mut words = vec![0; PART];
         let state = host::begin(plan, &mut words);
         Unsettled { plan, state, words }
     }
 
+    /// Masses rounded so far.
+    pub fn rounded(&self) -> u32 {
+        self.state.records[0].rounded
+    }
+
     /// Upper and lower boundary of the next step, after a draw that leaves the count strictly between them: the one
     /// towards the middle, or else the other.
-    fn advance(&mut self) -> Option<(i64, i64)> {
+    pub fn advance(&mut self) -> Option<(i64, i64)> {
         let before = self.state.records[0];
         let low = 2 * (self.state.ones as i64) < before.upper as i64 + before.lower as i64;
         [low, !low].into_iter().find_map(|draw| {
             let mut words = self.words.clone();
             let next = host::draw(self.plan, self.state, &mut words, draw as u8);
             let record = next.records[0];
-            (next.answer == OPEN && next.n == self.state.n + 1).then(|| {
+            (record.mark == OPEN && next.n == self.state.n + 1).then(|| {
                 (self.state, self.words) = (next, words);
                 (record.upper as i64, record.lower as i64)
             })
@@ -57,7 +62,7 @@ fn from_rounding(rule: &Exact, met: &Big, cautious: bool) -> bool {
 /// One threshold's boundaries at every step: how many differ, and whether rounding accounts for it.
 fn boundaries_of(at: u32) -> Option<(u64, bool)> {
     let mut rule = Exact::begin(at as u64, STAR_ALLOWANCE, STAR_DELAY as u64);
-    let mut test = Unsettled::begin(at);
+    let mut test = Unsettled::begin(&star_of(at));
     let mut good = true;
     let (mut upper_same, mut lower_same) = (true, true);
     let mut differ = 0;

@@ -40,6 +40,7 @@ pub struct Record {
     pub upper: u32,
     pub over: u64,
     pub under: u64,
+    pub rounded: u32,
 }
 
 pub const DECIDED: u32 = 1;

@@ -10,8 +10,13 @@ use crate::plan::{read, MILLION, WHOLE};
 pub const PART: usize = 769;
 pub const WORD_LIMIT: u128 = 1 << 43;
 
+/// The most that masses rounded may be after n draws.
+pub fn most_rounded(n: u32) -> u64 {
+    PART as u64 * n as u64
+}
+
 /// The clauses of refusal 11.
-pub const CLAUSES: [&str; 14] = [
+pub const CLAUSES: [&str; 16] = [
     "n over N",
     "S over n",
     "settled before 1",
@@ -26,7 +31,13 @@ pub const CLAUSES: [&str; 14] = [
     "lower spent",
     "live word",
     "mass under M",
+    "rounded, open",
+    "rounded, settled",
 ];
+
+/// Masses rounded, of an open record and of a settled one.
+pub const OPEN_ROUNDED: usize = 14;
+pub const SETTLED_ROUNDED: usize = 15;
 
 /// Never broken alone: each open threshold breaks another with it, and where none is open the answer ends the test.
 pub const NEVER_ALONE: [usize; 2] = [1, 6];
@@ -49,7 +60,35 @@ pub enum Fault {
     RefusalCounts,
     /// Another choice among the buckets.
     Choice(Choice),
+    /// Other cells counted as rounded.
+    EveryCellRounded,
+    KeptRounded,
+    SpentRounded,
+    /// Masses rounded in the last step alone.
+    RoundedAnew,
+    /// Of a settled threshold its masses rounded lost: those of the settling step, or all of them at the next draw.
+    SettlingUnrounded,
+    SettledUnrounded,
+    /// Other limits to masses rounded: none where settled, 768 × n, 769 × the mark's step, one for signed numbers.
+    SettledUnjudged,
+    RoundedBy768,
+    RoundedByStep,
+    RoundedSigned,
+    /// Masses rounded judged before this refusal.
+    RoundedBefore(u32),
 }
+
+/// Mistakes in counting masses rounded, and in judging them.
+pub const COUNTING: [Fault; 6] = [
+    Fault::EveryCellRounded,
+    Fault::KeptRounded,
+    Fault::SpentRounded,
+    Fault::RoundedAnew,
+    Fault::SettlingUnrounded,
+    Fault::SettledUnrounded,
+];
+pub const JUDGING: [Fault; 4] =
+    [Fault::SettledUnjudged, Fault::RoundedBy768, Fault::RoundedByStep, Fault::RoundedSigned];
 
 pub fn plan_refusal(p: &Plan) -> u32 {
     match draft_of(p) {
@@ -74,7 +113,7 @@ fn narrowest(p: &Plan, low: u32, high: u32) -> Option<u32> {
 }
 
 /// The answer rule with its interval, put to any state under an accepted plan.
-fn answer(p: &Plan, s: &State, fault: Fault) -> Report {
+pub fn answer(p: &Plan, s: &State, fault: Fault) -> Report {
     let k = p.count as usize;
     let marked = |mark: u32| (0..k).filter(move |i| s.records[*i].mark == mark).map(|i| p.thresholds[i]);
     let low = marked(ABOVE).max().unwrap_or(0);
@@ -107,9 +146,28 @@ pub fn live<'a>(r: &Record, part: &'a [u64]) -> &'a [u64] {
     &part[..(apart(r) - 1).clamp(0, part.len() as i128) as usize]
 }
 
+/// How far inside their limit a record's masses rounded are; none where they are not judged.
+fn rounded_slack(r: &Record, n: u32, fault: Fault) -> Option<i128> {
+    let settled = r.mark != OPEN;
+    let limit = match fault {
+        Fault::SettledUnjudged if settled => return None,
+        Fault::RoundedByStep if settled => most_rounded(r.step),
+        Fault::RoundedBy768 => most_rounded(n) - n as u64,
+        _ => most_rounded(n),
+    };
+    let rounded = if fault == Fault::RoundedSigned { r.rounded as i32 as i128 } else { r.rounded as i128 };
+    Some(limit as i128 - rounded)
+}
+
+/// Too many masses rounded in one of the first K records.
+pub fn rounded_over(p: &Plan, s: &State) -> bool {
+    let over = |r: &Record| rounded_slack(r, s.n, Fault::None).is_some_and(|slack| slack < 0);
+    s.records[..p.count as usize].iter().any(over)
+}
+
 /// How far inside each clause's limit the state is, the least over its records: 0 at the limit, below 0 broken.
-pub fn slacks(p: &Plan, s: &State, words: &[u64]) -> [Option<i128>; 14] {
-    let mut out = [None; 14];
+pub fn slacks(p: &Plan, s: &State, words: &[u64], fault: Fault) -> [Option<i128>; CLAUSES.len()] {
+    let mut out = [None; CLAUSES.len()];
     let mut note = |clause: usize, slack: i128| {
         out[clause] = Some(out[clause].map_or(slack, |least: i128| least.min(slack)));
     };
@@ -118,6 +176,9 @@ pub fn slacks(p: &Plan, s: &State, words: &[u64]) -> [Option<i128>; 14] {
     note(1, n - ones);
     for i in 0..p.count as usize {
         let r = &s.records[i];
+        if let Some(slack) = rounded_slack(r, s.n, fault) {
+            note(if r.mark == OPEN { OPEN_ROUNDED } else { SETTLED_ROUNDED }, slack);
+        }
         if r.mark != OPEN {
             note(2, r.step as i128 - 1);
             note(3, n - r.step as i128);
@@ -146,8 +207,17 @@ pub fn spoiled(p: &Plan, s: &State, words: &[u64], fault: Fault) -> bool {
         Fault::Limit(moved, by) if moved == clause => by,
         _ => 0,
     };
-    let mut slacks = slacks(p, s, words).into_iter().enumerate();
+    let mut slacks = slacks(p, s, words, fault).into_iter().enumerate();
     slacks.any(|(clause, slack)| slack.is_some_and(|slack| slack < limit(clause)))
+}
+
+fn counts_as_rounded(rounded: bool, kept: bool, fault: Fault) -> bool {
+    match fault {
+        Fault::EveryCellRounded => true,
+        Fault::KeptRounded => rounded && kept,
+        Fault::SpentRounded => rounded && !kept,
+        _ => rounded,
+    }
 }
 
 /// One step of a walk to step t: masses by count, boundaries searched over their printed ranges. The self-check holds it to
@@ -159,11 +229,12 @@ pub fn walk(a: u128, limit: u128, t: i64, r: &mut Record, part: &mut [u64], faul
         true => part.get((s - lower - 1) as usize).copied().unwrap_or(0) as u128,
         false => 0,
     };
-    let mass = |s: &i64| {
+    let cell = |s: &i64| {
         let sum = old(*s) * (MILLION - a) + old(*s - 1) * a;
-        sum / MILLION + (sum % MILLION > 0) as u128
+        let rounded = sum % MILLION > 0;
+        (sum / MILLION + rounded as u128, rounded)
     };
-    let new: Vec<u128> = counts.iter().map(mass).collect();
+    let (new, rounded): (Vec<u128>, Vec<bool>) = counts.iter().map(cell).unzip();
     let mut sums = vec![0u128];
     for mass in &new {
         sums.push(sums[sums.len() - 1] + mass);
@@ -182,8 +253,13 @@ pub fn walk(a: u128, limit: u128, t: i64, r: &mut Record, part: &mut [u64], faul
     if fault != Fault::BehindKept {
         part.fill(0);
     }
-    let kept = counts.iter().zip(&new).filter(|c| bottom < *c.0 && *c.0 < top).map(|c| *c.1 as u64);
-    part.iter_mut().zip(kept).for_each(|(word, mass)| *word = mass);
+    let kept = |s: &i64| bottom < *s && *s < top;
+    let masses = counts.iter().zip(&new).filter(|c| kept(c.0)).map(|c| *c.1 as u64);
+    part.iter_mut().zip(masses).for_each(|(word, mass)| *word = mass);
+    let counted = counts.iter().zip(&rounded).filter(|c| counts_as_rounded(*c.1, kept(c.0), fault)).count();
+    let before = if fault == Fault::RoundedAnew { 0 } else { r.rounded };
+    // Only a mistake lets so large a number through that this is not the sum.
+    r.rounded = before.wrapping_add(counted as u32);
 }
 
 fn refused(number: u32, s: &State) -> State {
@@ -200,12 +276,16 @@ fn draw_refusal(p: &Plan, s: &State, words: &[u64], d: u8, fault: Fault) -> u32 
     let nine = d > 1;
     let ten = || answer(p, s, fault).answer != OPEN;
     let eleven = || spoiled(p, s, words, fault);
+    let rounded = |before: u32| fault == Fault::RoundedBefore(before) && rounded_over(p, s);
     match fault {
         Fault::NineBeforeEight if nine => 9,
+        _ if rounded(8) => 11,
         _ if eight => 8,
         Fault::TenBeforeNine if ten() => 10,
+        _ if rounded(9) => 11,
         _ if nine => 9,
         Fault::ElevenBeforeTen if eleven() => 11,
+        _ if rounded(10) => 11,
         _ if ten() => 10,
         _ if eleven() => 11,
         _ => 0,
@@ -217,17 +297,23 @@ fn turn(p: &Plan, s: &mut State, words: &mut [u64], fault: Fault) {
         let r = &mut s.records[i];
         let part = &mut words[PART * i..PART * (i + 1)];
         if r.mark != OPEN {
-            if fault == Fault::SettledCleared {
-                part.fill(0);
+            match fault {
+                Fault::SettledCleared => part.fill(0),
+                Fault::SettledUnrounded => r.rounded = 0,
+                _ => {}
             }
             continue;
         }
+        let before = r.rounded;
         walk(p.thresholds[i] as u128, spending(p, i, s.n), s.n as i64, r, part, fault);
         let step = s.n - (fault == Fault::MarkOfStepBefore) as u32;
         if s.ones as i64 >= r.upper as i64 {
             (r.mark, r.step) = (ABOVE, step);
         } else if s.ones as i64 <= r.lower as i64 {
             (r.mark, r.step) = (AT_MOST, step);
+        }
+        if r.mark != OPEN && fault == Fault::SettlingUnrounded {
+            r.rounded = before;
         }
     }
 }
@@ -251,7 +337,7 @@ pub fn draw(p: &Plan, s: &State, words: &mut [u64], d: u8, fault: Fault) -> Stat
 }
 
 /// Step 0.
-pub const FIRST: Record = Record { mark: OPEN, step: 0, lower: -1, upper: 1, over: 0, under: 0 };
+pub const FIRST: Record = Record { mark: OPEN, step: 0, lower: -1, upper: 1, over: 0, under: 0, rounded: 0 };
 
 /// What a beginning hands back; the words are changed in place.
 pub fn begin(p: &Plan, words: &mut [u64]) -> State {

@@ -4,9 +4,9 @@ use crate::draft::Draft;
 use crate::form::{held, length, Held, Numbers};
 use crate::host::{draft_of, plan_of, Plan, Record, State, Test, Written};
 use crate::host::{CROSSED, DECIDED, OPEN, REFUSED, SPENT, WIDE};
-use crate::judge::{self, live, plan_refusal, report_on, Fault, PART};
+use crate::judge::{self, answer, live, plan_refusal, Fault, PART};
 use crate::plan;
-use crate::wrong::{Wrong, PLAN};
+use crate::wrong::{Wrong, PLAN, ROUNDED};
 use std::borrow::Cow;
 
 /// A refusal with its number, 0 where it does not refuse.
@@ -34,10 +34,19 @@ pub fn fitting(words: &[u64], k: usize) -> Cow<'_, [u64]> {
     }
 }
 
+fn fault_of(wrong: Wrong) -> Fault {
+    if let Wrong::Judge(fault) = wrong { fault } else { Fault::None }
+}
+
 /// Refusal 11, also where the plan is refused, but not by rule 1 or for its delay.
 fn eleven(p: &Plan, s: &State, words: &[u64], wrong: Wrong) -> (u32, u32) {
-    let fault = if let Wrong::Eleven(fault) = wrong { fault } else { Fault::None };
-    judged(11, p.delay > 0 && judge::spoiled(p, s, words, fault))
+    judged(11, p.delay > 0 && judge::spoiled(p, s, words, fault_of(wrong)))
+}
+
+/// Masses rounded apart from the rest of 11, where their place is the mistake.
+fn rounded(p: &Plan, s: &State, wrong: Wrong) -> (u32, u32) {
+    let apart = matches!(wrong, Wrong::Before(ROUNDED, _));
+    (ROUNDED, judged(11, apart && judge::rounded_over(p, s)).1)
 }
 
 fn eight(p: &Plan, words: &[u64]) -> (u32, u32) {
@@ -67,8 +76,9 @@ pub fn write(p: &Plan, s: &State, words: &[u64], lent: &mut [u8], wrong: Wrong) 
     }
     let fitting = fitting(words, p.count as usize);
     let form = Numbers::of(p.count as usize, s, &fitting, wrong).store();
-    let spoiled = eleven(p, s, &fitting, wrong);
-    let refusal = first([(PLAN, plan_refusal(p)), eight(p, words), spoiled, twelve(lent, form.len(), wrong)], wrong);
+    let (spoiled, rounded) = (eleven(p, s, &fitting, wrong), rounded(p, s, wrong));
+    let room = twelve(lent, form.len(), wrong);
+    let refusal = first([(PLAN, plan_refusal(p)), eight(p, words), spoiled, rounded, room], wrong);
     lend(&form, lent, refusal, wrong);
     let told = refusal == 0 || wrong == Wrong::RefusedHandsBack(refusal);
     Written { refusal, size: if told { form.len() } else { 0 } }
@@ -97,7 +107,8 @@ pub fn read(p: &Plan, bytes: &[u8], words: &mut [u64], wrong: Wrong) -> Test {
     let held = held(p.count as usize, bytes, wrong);
     let spoiled = eleven(p, &held.state, &held.words, wrong);
     let unfit = judged(15, !held.reasons.is_empty());
-    let refusal = first([(PLAN, plan_refusal(p)), eight(p, words), unfit, spoiled], wrong);
+    let order = [(PLAN, plan_refusal(p)), eight(p, words), unfit, spoiled, rounded(p, &held.state, wrong)];
+    let refusal = first(order, wrong);
     if refusal == 0 || wrong == Wrong::RefusedWrites(refusal) {
         fill(&held, words, wrong);
     }
@@ -155,18 +166,17 @@ pub fn draw(plan: &[u8], saved: &[u8], draw: u32, lent: &mut [u8], wrong: Wrong)
     let Held { reasons, mut state, mut words } = held(k, saved, wrong);
     let draw = if wrong == Wrong::DrawOf8Bits { draw % 256 } else { draw };
     let (unfit, nine) = (judged(15, !reasons.is_empty()), judged(9, draw > 1));
-    let ten = judged(10, ![OPEN, REFUSED].contains(&report_on(&p, &state, Fault::None).answer));
-    let spoiled = eleven(&p, &state, &words, wrong);
-    let before = [(PLAN, refusal), unfit, nine, ten, spoiled];
+    let ten = judged(10, refusal == 0 && answer(&p, &state, Fault::None).answer != OPEN);
+    let (spoiled, rounded) = (eleven(&p, &state, &words, wrong), rounded(&p, &state, wrong));
+    let before = [(PLAN, refusal), unfit, nine, ten, spoiled, rounded];
     let mut form = saved.to_vec();
     if first(before, wrong) == 0 {
-        let fault = if let Wrong::Eleven(fault) = wrong { fault } else { Fault::None };
-        state = judge::draw(&p, &state, &mut words, draw as u8, fault);
+        state = judge::draw(&p, &state, &mut words, draw as u8, fault_of(wrong));
         form = Numbers::of(k, &state, &words, wrong).store();
     }
     let size = if wrong == Wrong::TwelveByOld { saved.len() } else { form.len() };
-    let [plan, unfit, nine, ten, spoiled] = before;
-    let refusal = first([plan, unfit, nine, ten, spoiled, twelve(lent, size, wrong)], wrong);
+    let [plan, unfit, nine, ten, spoiled, rounded] = before;
+    let refusal = first([plan, unfit, nine, ten, spoiled, rounded, twelve(lent, size, wrong)], wrong);
     lend(&form, lent, refusal, wrong);
     if refusal > 0 { refusal } else { code(state.answer, state.number, wrong) }
 }

@@ -6,6 +6,7 @@ mod big;
 mod boundary;
 mod calls;
 mod case;
+mod chances;
 mod choices;
 mod close;
 mod compare;
@@ -67,7 +68,8 @@ const USAGE: &str = "usage: reference COMMAND
   damaged               what the example in C made of damaged files, as tests/shuffle kept them, against the reference
   gandy [--seed N]      the library's boundaries and the mean draws beside the published ones
   narrower [--seed N]   the library's bucket where several contain the interval, against the reference
-  rounding [--seed N]   the library's new masses where their sums leave chosen remainders, against the reference
+  rounding [--seed N]   the library's new masses and masses rounded, where sums leave chosen remainders, against the
+                        reference
   saved [--seed N]      the library's tests written as bytes and read back, against the reference
   spoiled [--seed N]    the library's entries on spoiled states, against the reference";
 

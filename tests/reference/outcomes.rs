@@ -1,7 +1,8 @@
 //! What the calls of `spoiled` came to, what has to come up, and the mistakes to be noticed.
 
 use crate::host::{State, CROSSED, DECIDED, OPEN, REFUSED, SPENT, WIDE};
-use crate::judge::{slacks, Fault, CLAUSES, NEVER_ALONE, NEVER_TAKEN};
+use crate::judge::{most_rounded, slacks, Fault, CLAUSES, COUNTING, JUDGING};
+use crate::judge::{NEVER_ALONE, NEVER_TAKEN, OPEN_ROUNDED, SETTLED_ROUNDED};
 use crate::scenes::Scene;
 use crate::tally::{named, sized, Counts, Differing};
 
@@ -9,7 +10,7 @@ use crate::tally::{named, sized, Counts, Differing};
 pub struct Tally {
     counts: Counts<(&'static str, String)>,
     /// For each clause: draws at its limit taken, and refused by 10; just past it, and so alone.
-    clauses: [[u64; 4]; 14],
+    clauses: [[u64; 4]; CLAUSES.len()],
     pub noticed: Counts<String>,
     pub draws_by_k: Counts<u32>,
     pub draws: u64,
@@ -53,8 +54,11 @@ impl Tally {
         if ![0, 10, 11].contains(&refusal) {
             return;
         }
-        let slacks = slacks(&scene.plan, &scene.state, &scene.words);
+        let slacks = slacks(&scene.plan, &scene.state, &scene.words, Fault::None);
         let broken = slacks.iter().flatten().filter(|slack| **slack < 0).count();
+        if refusal == 11 && broken == 1 {
+            self.note_far(scene, &slacks);
+        }
         for (clause, slack) in slacks.iter().enumerate() {
             match (slack, refusal) {
                 (Some(0), 0) => self.clauses[clause][0] += 1,
@@ -66,6 +70,13 @@ impl Tally {
                 _ => {}
             }
         }
+    }
+
+    /// Large numbers of masses rounded that alone break a clause.
+    fn note_far(&mut self, scene: &Scene, slacks: &[Option<i128>]) {
+        let most = most_rounded(scene.state.n) as i128;
+        let met = FAR.into_iter().filter(|(clause, number)| slacks[*clause] == Some(most - *number as i128));
+        met.for_each(|far| self.count(FAR_ROUNDED, far_name(far)));
     }
 
     /// What of the left-over contents a taken draw met.
@@ -83,6 +94,10 @@ impl Tally {
         }
         if scene.state.records[k..].iter().any(|r| r.over != 0) {
             self.count(OVER_GARBAGE, "records past K".into());
+        }
+        let most = most_rounded(scene.state.n);
+        if scene.state.records[k..].iter().any(|r| r.rounded as u64 > most) {
+            self.count(OVER_GARBAGE, "rounded past K".into());
         }
     }
 }
@@ -105,7 +120,20 @@ pub fn mistakes() -> Vec<Fault> {
         Fault::MarkOfStepBefore,
         Fault::RefusalCounts,
     ]);
+    out.extend(COUNTING);
+    out.extend(JUDGING);
+    out.extend([8, 9, 10].map(Fault::RoundedBefore));
     out
+}
+
+/// A mistake with masses rounded must be noticed often, any other at all.
+fn needed_noticed(fault: Fault) -> u64 {
+    let rounded = match fault {
+        Fault::Limit(clause, _) => [OPEN_ROUNDED, SETTLED_ROUNDED].contains(&clause),
+        Fault::RoundedBefore(_) => true,
+        other => COUNTING.contains(&other) || JUDGING.contains(&other),
+    };
+    if rounded { 20 } else { 1 }
 }
 
 pub fn name(fault: Fault) -> String {
@@ -131,8 +159,23 @@ fn needed(kind: &str) -> u64 {
     if kind.parse::<u32>().is_ok() { 40 } else { 1 }
 }
 
-const LEFT_OVER: [&str; 3] = ["behind the live words", "settled words", "records past K"];
+const LEFT_OVER: [&str; 4] = ["behind the live words", "settled words", "records past K", "rounded past K"];
 const OVER_GARBAGE: &str = "taken over garbage";
+
+/// Numbers of masses rounded far over their limit, by clause.
+const FAR: [(usize, u32); 6] = [
+    (OPEN_ROUNDED, 1 << 31),
+    (OPEN_ROUNDED, u32::MAX - 1),
+    (OPEN_ROUNDED, u32::MAX),
+    (SETTLED_ROUNDED, 1 << 31),
+    (SETTLED_ROUNDED, u32::MAX - 1),
+    (SETTLED_ROUNDED, u32::MAX),
+];
+const FAR_ROUNDED: &str = "refused for masses rounded alone";
+
+fn far_name((clause, number): (usize, u32)) -> String {
+    format!("{}: {number}", CLAUSES[clause])
+}
 
 impl Tally {
     fn of(&self, group: &'static str, what: &str) -> u64 {
@@ -149,6 +192,8 @@ impl Tally {
         }
         let list: Vec<String> = LEFT_OVER.iter().map(|what| format!("{what} {}", self.of(OVER_GARBAGE, what))).collect();
         println!("draws taken over garbage: {}", list.join(", "));
+        let list = FAR.map(far_name).map(|far| format!("{far} {}", self.of(FAR_ROUNDED, &far)));
+        println!("draws {FAR_ROUNDED}: {}", list.join(", "));
         println!("{:<20}{:>12}{:>12}{:>12}{:>12}", "refusal 11", "in, taken", "in, by 10", "just out", "alone");
         for (name, [taken, ended, out, alone]) in CLAUSES.iter().zip(self.clauses) {
             println!("{name:<20}{taken:>12}{ended:>12}{out:>12}{alone:>12}");
@@ -164,15 +209,17 @@ impl Tally {
             out.extend(seldom.map(|kind| format!("never or seldom, {group}: {kind}")));
         }
         out.extend(LEFT_OVER.iter().filter(|what| self.of(OVER_GARBAGE, what) == 0).map(|what| format!("never {what}")));
+        let far = FAR.map(far_name).into_iter().filter(|far| self.of(FAR_ROUNDED, far) == 0);
+        out.extend(far.map(|far| format!("never {FAR_ROUNDED}: {far}")));
         for (clause, [taken, ended, past, alone]) in self.clauses.into_iter().enumerate() {
             let inside = if NEVER_TAKEN.contains(&clause) { ended } else { taken };
             if inside == 0 || past == 0 || (alone == 0 && !NEVER_ALONE.contains(&clause)) {
                 out.push(format!("a limit was not met: {}", CLAUSES[clause]));
             }
         }
-        let noticed = |fault: &String| self.noticed.get(fault).is_some_and(|count| *count > 0);
-        let mistakes = mistakes().into_iter().map(name);
-        out.extend(mistakes.filter(|fault| !noticed(fault)).map(|fault| format!("not noticed: {fault}")));
+        let noticed = |fault: Fault| self.noticed.get(&name(fault)).copied().unwrap_or(0);
+        let mistakes = mistakes().into_iter().filter(|fault| noticed(*fault) < needed_noticed(*fault));
+        out.extend(mistakes.map(|fault| format!("never or seldom noticed: {}", name(fault))));
         if self.draws < 200_000 {
             out.push("too few draws".into());
         }

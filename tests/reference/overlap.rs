@@ -149,14 +149,14 @@ pub fn marked(state: &State, marks: &[u32; 10], step: u32) -> State {
 
 /// An open record to be marked so by the next draw, whichever that is: all mass lies so far on one side of the ones
 /// that the boundary on the other side comes to them.
-fn about_to_be(mark: u32, ones: u32, part: &mut [u64]) -> Record {
+fn about_to_be(mark: u32, ones: u32, rounded: u32, part: &mut [u64]) -> Record {
     let (lower, upper, held) = match mark {
         ABOVE => (ones as i32 - 3, ones + 1, 0),
         _ => (ones as i32 - 1, ones + 4, 3),
     };
     part.fill(0);
     part[held] = WHOLE as u64;
-    Record { mark: OPEN, step: 0, lower, upper, over: 0, under: 0 }
+    Record { mark: OPEN, step: 0, lower, upper, over: 0, under: 0, rounded }
 }
 
 /// A sound state with such marks, some of them or all still to come with the next draw.
@@ -171,7 +171,8 @@ pub fn before_marks(rng: &mut Rng, plan: Plan, marks: &[u32; 10]) -> Scene {
             _ => ones + 3 <= n,
         };
         if possible && rng.chance(to_come, 3) {
-            scene.state.records[i] = about_to_be(marks[i], ones, scene.part(i));
+            let rounded = scene.state.records[i].rounded;
+            scene.state.records[i] = about_to_be(marks[i], ones, rounded, scene.part(i));
         }
     }
     scene

@@ -1,10 +1,13 @@
 //! Steps of a walk whose sums leave chosen remainders, with masses up to the largest that a state may hold. Besides
-//! `judge`, each live word is held to what rounding up means: the least whole number that is enough.
+//! `judge`, each live word is held to what rounding up means, the least whole number that is enough, and masses rounded
+//! to the sums that leave a remainder; those of the star thresholds over 50,000 steps.
 
-use crate::draft::Draft;
+use crate::boundary::{Quick, Slip};
+use crate::draft::{plan_f, star_of, two_buckets, Draft, STAR_ALLOWANCE, STAR_DELAY, STAR_THRESHOLDS};
 use crate::examples::with_thresholds;
+use crate::gandy::Unsettled;
 use crate::host::{self, plan_of, State, OPEN, REFUSED};
-use crate::judge::{self, Fault, PART, WORD_LIMIT};
+use crate::judge::{self, most_rounded, Fault, PART, WORD_LIMIT};
 use crate::plan::{LARGEST_ALLOWANCE, LEAST_APART, MILLION, WHOLE};
 use crate::rng::Rng;
 use crate::scenes::{made_up_with, Scene};
@@ -19,12 +22,12 @@ const THRESHOLDS: [u128; 7] = [1, 2, 50_000, 333_333, 400_000, 500_000, 999_999]
 const REMAINDERS: [u128; 8] = [0, 1, 2, 499_999, 500_000, 500_001, 999_998, 999_999];
 const LARGE: u128 = 1 << 62;
 
-/// What a cell has, and the numbers that must come up; the last of the sums is the largest that there is.
+/// What a live cell has, and the numbers that must come up; the last of the sums is the largest that there is.
 const MET: [(&str, fn(&Cell) -> Option<u128>, &[u128]); 4] = [
     ("thresholds", |cell| Some(cell.a), &THRESHOLDS),
     ("sums", |cell| Some(cell.sum()), &[0, 1, MILLION, WORD_LIMIT * MILLION]),
-    ("remainders", |cell| Some(cell.sum() % MILLION), &REMAINDERS),
-    ("remainders of sums from 2^62 on", |cell| (cell.sum() >= LARGE).then(|| cell.sum() % MILLION), &REMAINDERS),
+    ("remainders", |cell| Some(cell.remainder()), &REMAINDERS),
+    ("remainders of sums from 2^62 on", |cell| (cell.sum() >= LARGE).then(|| cell.remainder()), &REMAINDERS),
 ];
 
 const M: u64 = WHOLE as u64;
@@ -40,6 +43,32 @@ const EXAMPLES: [(u32, &[u64], usize, u64); 7] = [
     (500_000, &[2, 1, M], 1, 2),
 ];
 
+/// What each mistake makes of the cells of a step: so many rounded.
+const MISCOUNTS: [(&str, fn(&Step) -> u32); 9] = [
+    ("every cell counted", |step| step.count(|_| true)),
+    ("every mass over 0 counted", |step| step.count(|cell| cell.sum() > 0)),
+    ("live cells counted alone", |step| step.count(|cell| cell.leaves() && cell.word.is_some())),
+    ("cells beyond a boundary counted alone", |step| step.count(|cell| cell.leaves() && cell.word.is_none())),
+    ("the lowest cell not counted", |step| step.count(Cell::leaves) - step.cells[0].leaves() as u32),
+    ("the highest cell not counted", |step| {
+        step.count(Cell::leaves) - step.cells.last().is_some_and(Cell::leaves) as u32
+    }),
+    ("a remainder of 1 not counted", |step| step.count(|cell| cell.remainder() > 1)),
+    ("a remainder of 999,999 not counted", |step| step.count(|cell| ![0, 999_999].contains(&cell.remainder()))),
+    ("remainders counted from a half on", |step| step.count(|cell| cell.remainder() >= MILLION / 2)),
+];
+
+/// A threshold with its allowance and delay, and masses rounded after each step.
+const ROUNDED: [(u32, u64, u32, &[u32]); 2] = [
+    (50_000, 4_398_046_511, 1000, &[2, 5, 9, 14, 20, 25, 31, 37, 43, 50]),
+    (400_000, LARGEST_ALLOWANCE, 1, &[2, 5, 8, 10, 12, 15]),
+];
+
+/// Steps of the star thresholds' walks, and masses rounded after them.
+const STAR_STEPS: u32 = 50_000;
+const STAR_ROUNDED: [u32; 9] =
+    [1_608_110, 2_315_020, 3_294_000, 6_549_693, 7_300_575, 8_037_421, 15_277_744, 15_334_204, 16_799_793];
+
 /// What each mistake makes of the two products.
 const MISTAKES: [(&str, fn(u128, u128) -> u128); 7] = [
     ("999,998 added", |stay, rise| (stay + rise + 999_998) / MILLION),
@@ -52,13 +81,14 @@ const MISTAKES: [(&str, fn(u128, u128) -> u128); 7] = [
     ("floating point", |stay, rise| ((stay + rise) as f64 / 1e6).ceil() as u128),
 ];
 
-/// A count that is live after a step: what its old mass and the one before bring, and the word that was left.
+/// A count that gets a new mass in a step: what its old mass and the one before bring, and the word that was left where
+/// it is live.
 #[derive(Debug)]
 struct Cell {
     a: u128,
     stay: u128,
     rise: u128,
-    word: u128,
+    word: Option<u128>,
 }
 
 impl Cell {
@@ -66,26 +96,54 @@ impl Cell {
         self.stay + self.rise
     }
 
+    fn remainder(&self) -> u128 {
+        self.sum() % MILLION
+    }
+
+    /// Does its sum leave a remainder?
+    fn leaves(&self) -> bool {
+        self.remainder() > 0
+    }
+
     fn rounded_up(&self) -> bool {
         let enough = |mass: u128| mass * MILLION >= self.sum();
-        enough(self.word) && (self.word == 0 || !enough(self.word - 1))
+        self.word.map_or(true, |word| enough(word) && (word == 0 || !enough(word - 1)))
     }
 }
 
-/// The live cells that a draw left, of thresholds that were all open.
-fn cells(scene: &Scene, after: &State, words: &[u64]) -> Vec<Cell> {
+/// One step of a walk by the library.
+#[derive(Debug)]
+struct Step {
+    cells: Vec<Cell>,
+    /// By how much masses rounded rose.
+    rounded: u32,
+}
+
+impl Step {
+    fn count(&self, counted: impl Fn(&Cell) -> bool) -> u32 {
+        self.cells.iter().filter(|cell| counted(cell)).count() as u32
+    }
+
+    fn is_right(&self) -> bool {
+        self.cells.iter().all(Cell::rounded_up) && self.rounded == self.count(Cell::leaves)
+    }
+}
+
+/// The steps of a draw, of thresholds that were all open.
+fn steps(scene: &Scene, after: &State, words: &[u64]) -> Vec<Step> {
     let mut out = Vec::new();
     for (i, (before, part)) in scene.words.chunks(PART).zip(words.chunks(PART)).enumerate() {
         let (r, left) = (&scene.state.records[i], &after.records[i]);
-        let before = judge::live(r, before);
-        let old = |count: i64| {
-            let place = usize::try_from(count - r.lower as i64 - 1).ok();
-            place.and_then(|place| before.get(place)).map_or(0, |word| *word as u128)
+        let (before, part) = (judge::live(r, before), judge::live(left, part));
+        let at = |words: &[u64], lower: i32, count: i64| {
+            let place = usize::try_from(count - lower as i64 - 1).ok();
+            place.and_then(|place| words.get(place)).map(|word| *word as u128)
         };
+        let old = |count: i64| at(before, r.lower, count).unwrap_or(0);
         let a = scene.plan.thresholds[i] as u128;
-        for (word, s) in judge::live(left, part).iter().zip(left.lower as i64 + 1..) {
-            out.push(Cell { a, stay: old(s) * (MILLION - a), rise: old(s - 1) * a, word: *word as u128 });
-        }
+        let counts = r.lower as i64 + 1..=r.upper as i64;
+        let cell = |s| Cell { a, stay: old(s) * (MILLION - a), rise: old(s - 1) * a, word: at(part, left.lower, s) };
+        out.push(Step { cells: counts.map(cell).collect(), rounded: left.rounded.wrapping_sub(r.rounded) });
     }
     out
 }
@@ -166,20 +224,27 @@ fn any_scene(rng: &mut Rng) -> Scene {
 struct Tally {
     calls: u64,
     cells: u64,
+    /// Masses rounded after the last step, by star threshold.
+    star: Counts<u32>,
     differ: Differing,
     met: [Counts<u128>; 4],
     noticed: Counts<&'static str>,
 }
 
 impl Tally {
-    fn note(&mut self, cells: &[Cell]) {
+    fn note(&mut self, steps: &[Step]) {
+        let cells: Vec<&Cell> = steps.iter().flat_map(|step| &step.cells).filter(|cell| cell.word.is_some()).collect();
         self.cells += cells.len() as u64;
         for ((_, of, numbers), counts) in MET.iter().zip(&mut self.met) {
-            let listed = cells.iter().filter_map(of).filter(|number| numbers.contains(number));
+            let listed = cells.iter().filter_map(|cell| of(cell)).filter(|number| numbers.contains(number));
             listed.for_each(|number| *counts.entry(number).or_default() += 1);
         }
         for (name, mass) in MISTAKES {
-            let noticed = cells.iter().any(|cell| mass(cell.stay, cell.rise) != cell.word);
+            let noticed = cells.iter().any(|cell| Some(mass(cell.stay, cell.rise)) != cell.word);
+            *self.noticed.entry(name).or_default() += noticed as u64;
+        }
+        for (name, rounded) in MISCOUNTS {
+            let noticed = steps.iter().any(|step| rounded(step) != step.rounded);
             *self.noticed.entry(name).or_default() += noticed as u64;
         }
     }
@@ -190,12 +255,12 @@ impl Tally {
         let (mut words, mut expected_words) = (scene.words.clone(), scene.words.clone());
         let got = host::draw(*p, *s, &mut words, scene.draw);
         let expected = judge::draw(p, s, &mut expected_words, scene.draw, Fault::None);
-        let cells = cells(scene, &got, &words);
-        let wrong = cells.iter().find(|cell| !cell.rounded_up());
+        let steps = steps(scene, &got, &words);
+        let wrong = steps.iter().find(|step| !step.is_right());
         let same = got == expected && words == expected_words && wrong.is_none() && got.answer != REFUSED;
         self.differ.note(same, || format!("{wrong:?}\n  {p:?}\n  {s:?}\n  library  {got:?}\n  expected {expected:?}"));
         self.calls += 1;
-        self.note(&cells);
+        self.note(&steps);
         words
     }
 
@@ -211,12 +276,35 @@ impl Tally {
             let got = self.compare(&Scene { plan, state, words, draw: 0 })[count];
             self.differ.note(got == mass, || format!("example {at}, {masses:?}, count {count}: {got} for {mass}"));
         }
+        for (at, allowance, delay, rounded) in ROUNDED {
+            let thresholds = vec![(at, allowance)];
+            let mut test = Unsettled::begin(&Draft { thresholds, delay, buckets: two_buckets(at), ..plan_f() });
+            let got: Vec<u32> = rounded.iter().filter_map(|_| test.advance().map(|_| test.rounded())).collect();
+            self.differ.note(got == rounded, || format!("rounded at {at}: {got:?} for {rounded:?}"));
+        }
+    }
+
+    /// The star thresholds' walks, at every step with `Quick` beside the library.
+    fn compare_star(&mut self) {
+        for (at, rounded) in STAR_THRESHOLDS.into_iter().zip(STAR_ROUNDED) {
+            let mut test = Unsettled::begin(&star_of(at));
+            let mut walk = Quick::begin(at as u128, STAR_ALLOWANCE as u128, STAR_DELAY as u128, Slip::None);
+            let agree = (0..STAR_STEPS).all(|_| {
+                walk.advance();
+                test.advance() == Some((walk.upper, walk.lower)) && test.rounded() as u64 == walk.rounded
+            });
+            self.star.insert(at, test.rounded().into());
+            let same = agree && test.rounded() == rounded;
+            self.differ.note(same, || format!("threshold {at}, step {}: {} rounded", walk.step, test.rounded()));
+        }
     }
 
     fn print(&self) {
         println!("calls compared: {}, live cells: {}", self.calls, self.cells);
         MET.iter().zip(&self.met).for_each(|((what, ..), counts)| println!("{what}: {}", sized(counts)));
         println!("mistakes noticed: {}", named(&self.noticed));
+        let most = most_rounded(STAR_STEPS);
+        println!("masses rounded after {STAR_STEPS} steps, of at most {most}, by threshold: {}", sized(&self.star));
     }
 
     fn faults(&self) -> Vec<String> {
@@ -236,6 +324,7 @@ pub fn run(seed: u64) -> bool {
     let began = Instant::now();
     let mut tally = Tally::default();
     tally.compare_examples();
+    tally.compare_star();
     for place in 0..CALLS {
         tally.compare(&any_scene(&mut Rng::new(seed, 47_000_000 + place)));
     }

@@ -1,15 +1,14 @@
 //! Tests written as bytes and read back: printed forms, carried and made-up tests, and damaged bytes of all kinds.
 
-use crate::draft::plan_f;
 use crate::form::{held, LONGEST};
 use crate::form_damage::{headers_off, in_turn};
-use crate::host::{plan_of, Plan, OPEN};
-use crate::judge::{begin, draw, Fault, PART};
+use crate::host::{plan_of, Plan, Record, OPEN};
+use crate::judge::{most_rounded, PART};
 use crate::outcomes::kind_of_refusal;
 use crate::rng::Rng;
 use crate::rows::{Rows, MET, OUTCOMES};
 use crate::saved_cases::{any_scene, numbers_of, sound_scene, widest_scene};
-use crate::saved_examples::{bytes_of, small_forms, FORMS};
+use crate::saved_examples::{bytes_of, carried, small_forms, FORMS, OLDER};
 use crate::scenes::{good_plan, Scene};
 use crate::tally::conclude;
 use crate::through::{carry, elsewhere, go_on, read, scene_of, through, write, AFTERWARDS, LASTING};
@@ -26,11 +25,24 @@ const HEADERS: u64 = 40;
 const NEEDED: u64 = 20;
 const NOTICED: u64 = 10;
 
-/// A boundary or a count of masses at a limit, and what comes of it.
+/// Masses rounded at their limit or beyond it.
+fn rounded_at(r: &Record, n: u32) -> Option<String> {
+    let number = match r.rounded as u64 {
+        rounded if rounded == most_rounded(n) => "769 n",
+        rounded if rounded == most_rounded(n) + 1 => "769 n + 1",
+        rounded if rounded == u32::MAX as u64 => "2^32 - 1",
+        _ => return None,
+    };
+    Some(format!("{} with {number} rounded", if r.mark == OPEN { "open" } else { "settled" }))
+}
+
+/// A boundary, a count of masses or masses rounded at a limit, and what comes of it.
 fn note_limits(rows: &mut Rows, k: usize, bytes: &[u8], outcome: &str) {
     let mut note = |what: String| rows.count(READ, MET, format!("{what}: {outcome}"), true);
-    for r in &held(k, bytes, Wrong::None).state.records[..k] {
+    let state = held(k, bytes, Wrong::None).state;
+    for r in &state.records[..k] {
         let count = r.upper as i64 - r.lower as i64 - 1;
+        rounded_at(r, state.n).into_iter().for_each(&mut note);
         match r.mark {
             OPEN if [0, 1, 769, 770].contains(&count) => note(format!("{count} counted")),
             OPEN if [i32::MIN, i32::MAX].contains(&r.lower) => note(format!("lower {}", r.lower)),
@@ -56,6 +68,14 @@ fn read_any(rows: &mut Rows, rng: &mut Rng, p: &Plan, bytes: &[u8], words: usize
     }
 }
 
+/// The older layout is refused, whatever the test.
+fn read_older(rows: &mut Rows, rng: &mut Rng, scene: &Scene) {
+    let older = numbers_of(scene).store_older();
+    let refusal = read(rows, rng, &scene.plan, &older, scene.words.len()).0.refusal;
+    rows.count(READ, MET, format!("older layout: {}", kind_of_refusal(refusal)), true);
+    rows.holds(READ, refusal == 15, || format!("older layout: {refusal}: {:?} {older:?}", scene.plan));
+}
+
 /// Lent bytes of about the form's length.
 fn write_about(rows: &mut Rows, rng: &mut Rng, scene: &Scene) {
     let size = numbers_of(scene).store().len();
@@ -72,6 +92,7 @@ fn write_about(rows: &mut Rows, rng: &mut Rng, scene: &Scene) {
 
 /// A test through a save; then it and its form, spoiled and damaged.
 fn compare_scene(rows: &mut Rows, rng: &mut Rng, good: &Scene) {
+    read_older(rows, rng, good);
     if let Some(read) = through(rows, rng, good) {
         elsewhere(rows, rng, good);
         go_on(rows, rng, good, &read);
@@ -90,15 +111,17 @@ fn compare_scene(rows: &mut Rows, rng: &mut Rng, good: &Scene) {
 }
 
 fn compare_examples(rows: &mut Rows, rng: &mut Rng) {
-    let plan = plan_of(&plan_f());
-    for (draws, _, form) in FORMS {
-        let mut words = vec![0; PART];
-        let mut state = begin(&plan, &mut words);
-        for d in draws {
-            state = draw(&plan, &state, &mut words, *d as u8, Fault::None);
-        }
-        let written = write(rows, rng, &Scene { plan, state, words, draw: 0 }, LONGEST);
+    for (draft, draws, _, form) in FORMS {
+        let test = carried(&draft(), draws);
+        let written = write(rows, rng, &test, LONGEST);
         rows.holds(WRITE, written == Some(bytes_of(form)), || format!("not as printed: {form}"));
+        through(rows, rng, &test);
+    }
+    for (draft, draws, form) in OLDER {
+        let test = carried(&draft(), draws);
+        let older = numbers_of(&test).store_older();
+        rows.holds(READ, older == bytes_of(form), || format!("not as printed before: {form}"));
+        read_older(rows, rng, &test);
     }
     let widest = widest_scene();
     let written = write(rows, rng, &widest, LONGEST);
@@ -123,6 +146,12 @@ fn needed(rows: &mut Rows) {
         rows.need(READ, MET, &format!("{boundary}: refused 15"), NEEDED);
     }
     rows.need(READ, MET, "settled with large numbers: done", NEEDED);
+    for mark in ["open", "settled"] {
+        rows.need(READ, MET, &format!("{mark} with 769 n rounded: done"), NEEDED);
+        rows.need(READ, MET, &format!("{mark} with 769 n + 1 rounded: refused 11"), NEEDED);
+        rows.need(READ, MET, &format!("{mark} with 2^32 - 1 rounded: refused 11"), NEEDED);
+    }
+    rows.need(READ, MET, "older layout: refused 15", SCENES);
     (1..=10).for_each(|k| rows.need(READ, MET, &format!("{k} thresholds"), NEEDED));
     rows.need(READ, AFTERWARDS, "tests", 1000);
     LASTING.iter().for_each(|wrong| rows.need(READ, AFTERWARDS, &format!("{wrong:?} noticed"), NEEDED));

@@ -9,11 +9,11 @@ use crate::examples::{crossing_plan, widening_plan, with_thresholds};
 use crate::form::Numbers;
 use crate::form_damage::{damage, damage_bytes};
 use crate::host::{draft_of, plan_of, Record, State, ABOVE, AT_MOST, OPEN};
-use crate::judge::PART;
+use crate::judge::{most_rounded, PART};
 use crate::kept::fitting;
 use crate::overlap::{any_marks, before_marks, overlapping_run, past_counts};
 use crate::rng::Rng;
-use crate::scenes::{good_plan, made_up, made_up_with, spoil, spoil_judged, Scene};
+use crate::scenes::{any_rounded, good_plan, made_up, made_up_with, often_settled, spoil, spoil_judged, Scene};
 use crate::wrong::Wrong;
 
 /// The values of a draw beside 0 and 1; of the last byte alone some are 0 or 1.
@@ -42,7 +42,8 @@ pub fn widest_plan() -> Draft {
 /// The longest form: every threshold wide.
 pub fn widest_scene() -> Scene {
     let mut state = State { n: 768, ones: 384, ..State::default() };
-    state.records.fill(Record { mark: OPEN, step: 0, lower: -1, upper: 769, over: 0, under: 0 });
+    let rounded = most_rounded(state.n) as u32;
+    state.records.fill(Record { mark: OPEN, step: 0, lower: -1, upper: 769, over: 0, under: 0, rounded });
     let words = (0..10 * PART as u64).map(|i| (1 << 34) + i).collect();
     Scene { plan: plan_of(&widest_plan()), state, words, draw: 0 }
 }
@@ -98,7 +99,8 @@ fn widening_scene(rng: &mut Rng) -> Scene {
     let plan = plan_of(&Draft { horizon: rng.pick(&[768, 769, 50_000]), ..with_thresholds(&[at], 1) });
     let state = State { n: any.min(plan.horizon), ones: rng.below(766) as u32, ..State::default() };
     let mut scene = Scene { plan, state, words: vec![1 << 42; PART], draw: rng.below(2) as u8 };
-    scene.state.records[0] = Record { mark: OPEN, upper: any.min(768) + 1, lower: -1, ..Record::default() };
+    let rounded = any_rounded(rng, state.n);
+    scene.state.records[0] = Record { mark: OPEN, upper: any.min(768) + 1, lower: -1, rounded, ..Record::default() };
     scene
 }
 
@@ -107,16 +109,19 @@ pub fn numbers_of(scene: &Scene) -> Numbers {
     Numbers::of(scene.k(), &scene.state, &fitting(&scene.words, scene.k()), Wrong::None)
 }
 
-/// What 11 seldom judges alone: a boundary one further, S at a boundary, or past n where none is open, and settled steps.
+/// What 11 seldom judges alone: a boundary one further, S at a boundary, or past n where none is open; steps and masses
+/// rounded of settled records.
 fn spoil_marked(rng: &mut Rng, scene: &mut Scene) {
-    let (n, k) = (scene.state.n, scene.k());
-    let r = &mut scene.state.records[rng.below(k as u64) as usize];
+    let n = scene.state.n;
+    let r = &mut scene.state.records[often_settled(rng, scene)];
     let (lower, past) = (r.lower as u32, n.wrapping_add(1));
+    let most = most_rounded(n).min(u32::MAX as u64) as u32;
     match (r.mark, rng.below(4)) {
         (OPEN, 0) => r.upper = r.upper.wrapping_add(1),
         (OPEN, 1) => r.lower = r.lower.wrapping_sub(1),
         (OPEN, _) => scene.state.ones = rng.pick(&[lower, lower.wrapping_add(1), r.upper.wrapping_sub(1), r.upper]),
         (_, 0) => scene.state.ones = past,
+        (_, 1) => r.rounded = rng.pick(&[most, most.saturating_add(1)]),
         _ => r.step = rng.pick(&[0, 1, n, past]),
     }
 }
@@ -136,10 +141,11 @@ fn spoil_beside(rng: &mut Rng, scene: &mut Scene) {
     }
 }
 
-/// A scene, spoiled or not, and bytes that may be handed on as saved ones: its form, damaged or not.
+/// A scene, spoiled or not, and bytes that may be handed on as saved ones: its form, damaged or not, at times in the
+/// older layout.
 pub fn any_scene(rng: &mut Rng, good: &Scene) -> (Scene, Vec<u8>) {
     let mut scene = good.clone();
-    let ways = [spoil, spoil_judged, spoil_judged, spoil_judged, spoil_marked, spoil_marked];
+    let ways = [spoil, spoil_judged, spoil_judged, spoil_judged, spoil_marked, spoil_marked, spoil_marked];
     for _ in 0..rng.pick(&[0, 1, 1, 1, 1, 2]) {
         rng.pick(&ways)(rng, &mut scene);
     }
@@ -148,7 +154,7 @@ pub fn any_scene(rng: &mut Rng, good: &Scene) -> (Scene, Vec<u8>) {
     for _ in 0..rng.pick(&[0, 0, 0, 0, 1, 1, 2]) {
         damage(rng, &mut form);
     }
-    let mut bytes = form.store();
+    let mut bytes = if rng.chance(1, 24) { form.store_older() } else { form.store() };
     if rng.chance(1, 8) {
         damage_bytes(rng, &mut bytes);
     }

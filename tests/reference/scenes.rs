@@ -3,7 +3,7 @@
 use crate::any_plan::{any_horizon, any_plan};
 use crate::damage;
 use crate::host::{draft_of, plan_of, Plan, Record, State, ABOVE, AT_MOST, OPEN};
-use crate::judge::{live, spending, PART, WORD_LIMIT};
+use crate::judge::{live, most_rounded, spending, PART, WORD_LIMIT};
 use crate::plan::{LARGEST_ALLOWANCE, WHOLE};
 use crate::rng::Rng;
 
@@ -43,6 +43,7 @@ fn garbage(rng: &mut Rng) -> Record {
         upper: rng.next() as u32,
         over: rng.next(),
         under: rng.next(),
+        rounded: rng.next() as u32,
     }
 }
 
@@ -69,6 +70,13 @@ pub fn good_plan(rng: &mut Rng) -> Plan {
     plan
 }
 
+/// Masses rounded that pass refusal 11 after n draws, often as many as may be.
+pub fn any_rounded(rng: &mut Rng, n: u32) -> u32 {
+    let most = most_rounded(n);
+    let any = rng.range(0, most);
+    rng.pick(&[any, any, 0, most.saturating_sub(1), most]) as u32
+}
+
 /// Boundaries, spent masses and words that pass refusal 11 after n draws with so many ones, and now and then wide.
 fn made_up_record(rng: &mut Rng, s: &State, limit: u64, part: &mut [u64]) -> Record {
     let (n, ones) = (s.n as i64, s.ones as i64);
@@ -92,7 +100,8 @@ fn made_up_record(rng: &mut Rng, s: &State, limit: u64, part: &mut [u64]) -> Rec
     }
     let held = rng.below(live as u64) as usize;
     part[held] = part[held].max(WHOLE as u64 - over - under);
-    Record { mark: OPEN, step: 0, lower: lower as i32, upper: upper as u32, over, under }
+    let rounded = any_rounded(rng, s.n);
+    Record { mark: OPEN, step: 0, lower: lower as i32, upper: upper as u32, over, under, rounded }
 }
 
 /// A state that no test was carried to, but that passes refusal 11.
@@ -116,7 +125,8 @@ pub fn made_up_with(rng: &mut Rng, plan: Plan, marks: &[u32; 10]) -> Scene {
             false => garbage(rng),
         };
         if i < plan.count as usize && n > 0 && marks[i] != OPEN {
-            state.records[i] = Record { mark: marks[i], step: rng.range(1, n) as u32, ..garbage(rng) };
+            let (step, rounded) = (rng.range(1, n) as u32, any_rounded(rng, n as u32));
+            state.records[i] = Record { mark: marks[i], step, rounded, ..garbage(rng) };
         }
     }
     Scene { plan, state, words, draw: rng.below(2) as u8 }
@@ -178,6 +188,21 @@ fn spoil_spent(rng: &mut Rng, scene: &mut Scene, i: usize) {
     }
 }
 
+/// The place of any threshold, every other time of a settled one, where there is one.
+pub fn often_settled(rng: &mut Rng, scene: &Scene) -> usize {
+    let settled: Vec<usize> = (0..scene.k()).filter(|i| scene.state.records[*i].mark != OPEN).collect();
+    let any = rng.below(scene.k() as u64) as usize;
+    if settled.is_empty() || rng.chance(1, 2) { any } else { rng.pick(&settled) }
+}
+
+/// Masses rounded at their limit, one over it, and far over it; of a settled record at times at that of its step.
+fn spoil_rounded(rng: &mut Rng, scene: &mut Scene) {
+    let r = &mut scene.state.records[often_settled(rng, scene)];
+    let [most, by_step] = [scene.state.n, r.step].map(|n| most_rounded(n).min(u32::MAX as u64) as u32);
+    let over = most.saturating_add(1);
+    r.rounded = rng.pick(&[most, most, over, over, over, by_step, 1 << 31, u32::MAX - 1, u32::MAX]);
+}
+
 fn spoil_word(rng: &mut Rng, scene: &mut Scene, i: usize) {
     let live = scene.live_of(i);
     let limit = WORD_LIMIT as u64;
@@ -202,6 +227,7 @@ fn spoil_all(rng: &mut Rng, scene: &mut Scene) {
             upper: rng.pick(&[0, 1, u32::MAX, i32::MAX as u32, 1 << 31]),
             over: rng.pick(&[0, u64::MAX]),
             under: rng.pick(&[0, u64::MAX]),
+            rounded: rng.pick(&[0, u32::MAX]),
         };
     }
     let word = rng.pick(&[0, u64::MAX, WORD_LIMIT as u64]);
@@ -274,12 +300,12 @@ fn spoil_plan(rng: &mut Rng, plan: &mut Plan, n: u32) {
 }
 
 pub fn spoil(rng: &mut Rng, scene: &mut Scene) {
-    spoil_one_of(rng, scene, 26);
+    spoil_one_of(rng, scene, 29);
 }
 
 /// Only what refusal 11 judges.
 pub fn spoil_judged(rng: &mut Rng, scene: &mut Scene) {
-    spoil_one_of(rng, scene, 17);
+    spoil_one_of(rng, scene, 20);
 }
 
 fn spoil_one_of(rng: &mut Rng, scene: &mut Scene, ways: u64) {
@@ -291,10 +317,11 @@ fn spoil_one_of(rng: &mut Rng, scene: &mut Scene, ways: u64) {
         10..=12 => spoil_spent(rng, scene, i),
         13..=14 => spoil_word(rng, scene, i),
         15..=16 => spoil_mass(rng, scene, i),
-        17..=18 => spoil_left_over(rng, scene, i),
-        19 => spoil_length(rng, scene),
-        20 => scene.draw = rng.pick(&[2, 255]),
-        21 => spoil_all(rng, scene),
+        17..=19 => spoil_rounded(rng, scene),
+        20..=21 => spoil_left_over(rng, scene, i),
+        22 => spoil_length(rng, scene),
+        23 => scene.draw = rng.pick(&[2, 255]),
+        24 => spoil_all(rng, scene),
         _ => {
             let n = scene.state.n;
             spoil_plan(rng, &mut scene.plan, n);

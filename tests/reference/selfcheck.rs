@@ -3,6 +3,7 @@
 use crate::agreement;
 use crate::boundary::{spending, Literal, Quick, Slip, WIDE};
 use crate::case::{Case, Feed};
+use crate::chances;
 use crate::damaged::{damaged_case, DAMAGED_RUNS};
 use crate::draft::{plan_f, star_plan, Draft};
 use crate::examples::{self, gap_plan, half_allowance_plan, largest_plan, narrower_plan};
@@ -10,13 +11,12 @@ use crate::host::Record;
 use crate::judge::{self, Fault};
 use crate::lapses::{lapses, Judged, Lapse};
 use crate::lines::kind_of_line;
-use crate::plan::{read, LARGEST_ALLOWANCE, MILLION, WHOLE};
+use crate::plan::{read, LARGEST_ALLOWANCE, WHOLE};
 use crate::random::{random_case, CROSSED_FROM, CROSSED_RUNS};
 use crate::rng::Rng;
 use crate::runner::start;
 use crate::sequential::{program, program_with, Answer, Mark, Test};
 use crate::tally::{named, Counts};
-use crate::weights::Weights;
 use std::collections::BTreeMap;
 use std::path::Path;
 use std::process::Child;
@@ -48,6 +48,16 @@ fn boundaries(at: u128, allowance: u128, delay: u128, steps: usize) -> Vec<(i64,
         .collect()
 }
 
+fn rounded(at: u128, allowance: u128, delay: u128, steps: usize) -> Vec<u64> {
+    let mut walk = Literal::begin(at, allowance, delay);
+    (0..steps)
+        .map(|_| {
+            walk.advance();
+            walk.rounded
+        })
+        .collect()
+}
+
 fn marked(thresholds: Vec<(u32, u64)>, buckets: Vec<(u32, u32)>, marks: &[Mark]) -> ((u128, u128), Answer) {
     let draft = Draft { thresholds, buckets, ..plan_f() };
     let plan = read(&draft.store()).expect("a plan");
@@ -73,6 +83,11 @@ fn numbered(report: &mut Report) {
     let most = LARGEST_ALLOWANCE as u128;
     report.check("P5", spending(most, 1, 1) == 1_099_511_627_775 && spending(most, 1, 2) == 1_466_015_503_700);
     report.check("P6", boundaries(400_000, most, 1, 3) == [(2, -1), (2, -1), (2, 0)]);
+    let of_f = rounded(50_000, thousandth, 1000, 10);
+    report.check("masses rounded, plan F", of_f == [2, 5, 9, 14, 20, 25, 31, 37, 43, 50]);
+    report.check("masses rounded, P6", rounded(400_000, most, 1, 6) == [2, 5, 8, 10, 12, 15]);
+    // Halved 42 times, the whole is one unit; the next step rounds where the number of strings is odd.
+    report.check("masses rounded, one half", rounded(500_000, 1, 1, 43)[40..] == [0, 0, 16]);
 
     let pair = vec![(10_000, 4_398_046_511), (50_000, 4_398_046_511)];
     let three = vec![(0, 10_000), (10_000, 50_000), (50_000, 1_000_000)];
@@ -123,6 +138,7 @@ fn judged_same(record: &Record, words: &[u64], literal: &Literal) -> bool {
     let mass = |count: i64| literal.mass.get(&count).copied().unwrap_or(0);
     (record.upper as i64, record.lower as i64) == (literal.upper, literal.lower)
         && (record.over as u128, record.under as u128) == (literal.spent_above, literal.spent_below)
+        && record.rounded as u64 == literal.rounded
         && words.iter().zip(literal.lower + 1..).all(|(word, count)| *word as u128 == mass(count))
 }
 
@@ -148,7 +164,8 @@ fn facts_of(report: &mut Report, at: u128, allowance: u128, delay: u128, steps: 
             && quick.upper <= upper + 1
             && quick.lower >= lower
             && all >= WHOLE
-            && all <= WHOLE + WIDE as u128 * t
+            && all <= WHOLE + literal.rounded as u128
+            && literal.rounded <= WIDE as u64 * t as u64
             && literal.spent_above <= spending(allowance, delay, t)
             && literal.spent_below <= spending(allowance, delay, t);
     }
@@ -168,37 +185,6 @@ fn facts(report: &mut Report, seed: u64) {
     facts_of(report, 50_000, 4_398_046_511, 1000, 2000);
     let spread = facts_of(report, 500_000, 1, 1, 800);
     report.check("passes wide", spread.upper - spread.lower - 1 > WIDE);
-}
-
-/// Exact weights of the strings that meet each boundary, against the spent masses.
-fn chances_of(report: &mut Report, at: u64, allowance: u128, delay: u128) {
-    let mut walk = Quick::begin(at as u128, allowance, delay, Slip::None);
-    let mut weights = Weights::begin(at, MILLION as u64);
-    let mut good = true;
-    for n in 1..=120u64 {
-        walk.advance();
-        weights.advance();
-        weights.settle(walk.upper, walk.lower);
-        let limit = weights.whole.times(spending(allowance, delay, n as u128) as u64);
-        for (met, spent) in [(&weights.above, walk.spent_above), (&weights.below, walk.spent_below)] {
-            let exact = met.times(WHOLE as u64);
-            let spent = weights.whole.times(spent as u64);
-            good &= exact.at_most(&limit);
-            good &= exact.at_most(&spent);
-            good &= spent.at_most(&exact.plus(&weights.whole.times(WIDE as u64 * n)));
-        }
-    }
-    report.check(&format!("chances for threshold {at}, allowance {allowance}, delay {delay}"), good);
-}
-
-fn chances(report: &mut Report, seed: u64) {
-    for round in 0..12u64 {
-        let rng = &mut Rng::new(seed, 88_000 + round);
-        let at = rng.range(1, 999_999);
-        let allowance = rng.scale(1, LARGEST_ALLOWANCE) as u128;
-        let delay = rng.scale(1, 3000) as u128;
-        chances_of(report, at, allowance, delay);
-    }
 }
 
 /// Runs in which each known mistake is looked for, and in how many it must change the line.
@@ -275,7 +261,7 @@ pub fn run(seed: u64) -> bool {
     printed(&mut report);
     failing_reads(&mut report);
     facts(&mut report, seed);
-    chances(&mut report, seed);
+    chances::checks(seed).iter().for_each(|(name, good)| report.check(name, *good));
     crossings(&mut report, seed);
     agreement::checks(seed).iter().for_each(|(name, good)| report.check(name, *good));
     mistakes(&mut report, seed);

@@ -18,8 +18,13 @@ const PAST: usize = 8;
 
 pub const AFTERWARDS: &str = "afterwards";
 /// Mistakes of a reading that must show in the draws after it.
-pub const LASTING: [Wrong; 4] =
-    [Wrong::MassesReversed, Wrong::ThresholdsReversed, Wrong::SpentSwapped, Wrong::SettledBare];
+pub const LASTING: [Wrong; 5] = [
+    Wrong::MassesReversed,
+    Wrong::ThresholdsReversed,
+    Wrong::SpentSwapped,
+    Wrong::RoundedLost,
+    Wrong::SettledBare,
+];
 
 // ---- one call by both
 

@@ -8,10 +8,10 @@ use native.Mathlib.Omega.{arith}
 use lib.ListN.{length}
 use Rattle.walk.specs.Numbers.{le?}
 use Rattle.walk.specs.Units.{wide}
-use Rattle.walk.specs.Walk.{walk}
+use Rattle.walk.specs.Walk.{walk, NoWideBefore}
 use Rattle.walk.specs.Strings.{Draws, lastStep}
 use Rattle.walk.proofs.Tests.{test, Le?, le, gt, clash}
-use Rattle.walk.proofs.Chances.{meets-says, allowed-always, chances}
+use Rattle.walk.proofs.Chances.{meets-says, allowed-always, chances-by-rounding, chances}
 use Rattle.walk.proofs.WalkFacts.{walk-facts}
 use Rattle.walk.proofs.RecordLaws.{mark-nil, narrow-start}
 use Rattle.plan.specs.Places.{unless, firstRefusal}
@@ -22,11 +22,11 @@ use Rattle.bucket_test.specs.Turn.{recordAt}
 use Rattle.bucket_test.specs.Answers.{answerOf, isEnding, refusalOf}
 use Rattle.bucket_test.specs.Draw.{Outcome, beginRefusal, begunOver, drawRefusalOver, drawRefusal, drawnBy, drawnOver}
 use Rattle.bucket_test.specs.Carried.{carriedOver, carried, hasEnded, takenBy, taken}
-use Rattle.bucket_test.specs.Demand3.{Marks, AnswersDraw, Answered, Demand3, Demand3Theorem}
+use Rattle.bucket_test.specs.Demand3.{Marks, Excess, AnswersDraw, Answered, Demand3, Demand3Theorem}
 use Rattle.plan.proofs.AcceptedLaws.{threshold-ok, spends, accepted}
 use Rattle.bucket_test.proofs.AnsweringLaws.{rule-answers}
 use Rattle.bucket_test.proofs.Beginning.{start-open}
-use Rattle.bucket_test.proofs.OneThreshold.{marks-say, stands-at}
+use Rattle.bucket_test.proofs.OneThreshold.{marks-say, stands-at, excess-says}
 use Rattle.bucket_test.proofs.Invariant.{markAt, recordAfter, partAfter, stateFor, wordsFor, History, start-state, start-words, record-at, mark-at, part-at, size-at, words-fit, state-sound, next-state, next-words, history-next}
 use Rattle.bucket_test.specs.declared.State.{State}
 use Rattle.plan.specs.declared.Plan.{Plan}
@@ -215,6 +215,15 @@ module _ (p : Plan) (ok : Accepted p) (good : planRefusal p ≡ 0) (words : List
           (stands-at (thresholdAt p i) (spendingOf p i) (threshold-ok p ok i l) (spends p ok i l) (markAt p i t) (length t)
           (size-at p ok t (held ds .history) i l))
 
+      narrow-now : NoWideBefore (thresholdAt p i) (spendingOf p i) (lastStep (recordAt (carried p words ds .state) i .mark) (length t))
+      narrow-now = rw mark-now (held ds .history .narrow i l)
+
+      excess-now : Excess (thresholdAt p i) (spendingOf p i) (lastStep (recordAt (carried p words ds .state) i .mark) (length t)) (length t)
+          (recordAt (carried p words ds .state) i .walked)
+      excess-now =
+          excess-says (thresholdAt p i) (spendingOf p i) (threshold-ok p ok i l) (spends p ok i l) t (recordAt (carried p words ds .state) i .mark)
+          (sym mark-now) narrow-now stands-now
+
     stays : (d : ℕ) → ¬ (refusalOf (carried p words (d ∷ ds) .answer) ≡ 0)
         → (carried p words (d ∷ ds) .state ≡ carried p words ds .state) × (carried p words (d ∷ ds) .words ≡ carried p words ds .words)
     unfolding carriedOver
@@ -229,11 +238,13 @@ module _ (p : Plan) (ok : Accepted p) (good : planRefusal p ≡ 0) (words : List
       ones-is = rw (held ds .state-is);
       marks = marks-now;
       stands = stands-now;
-      not-continued = λ i l. rw (mark-now i l) (held ds .history .narrow i l);
+      excess = excess-now;
+      not-continued = narrow-now;
       facts = λ i l n. walk-facts (thresholdAt p i) (threshold-ok p ok i l) (spendingOf p i) (spends p ok i l) n;
       counted = λ i l s side. meets-says (thresholdAt p i) (threshold-ok p ok i l) (spendingOf p i) (spends p ok i l) s side;
       allowed = λ i l n side. allowed-always (thresholdAt p i) (threshold-ok p ok i l) (spendingOf p i) (spends p ok i l) side n;
-      chances = λ i l n none side. chances (thresholdAt p i) (threshold-ok p ok i l) (spendingOf p i) (spends p ok i l) side n none;
+      chances = λ i l n none side. chances-by-rounding (thresholdAt p i) (threshold-ok p ok i l) (spendingOf p i) (spends p ok i l) side n none;
+      chances-by-steps = λ i l n none side. chances (thresholdAt p i) (threshold-ok p ok i l) (spendingOf p i) (spends p ok i l) side n none;
     }
 
 -- demand 3, whole

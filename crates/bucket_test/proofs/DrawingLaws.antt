@@ -11,15 +11,16 @@ use Rattle.walk.specs.Units.{million, wide, horizonLimit}
 use Rattle.walk.specs.Spending.{IsSpending}
 use Rattle.walk.specs.Strings.{markOpen}
 use Rattle.walk.specs.Record.{firstAbove, isWide}
+use Rattle.walk.specs.Soundness.{roundedFits}
 use Rattle.walk.specs.declared.Mark.{Mark}
 use Rattle.walk.specs.declared.Mark.the-variants.{Open, Above, AtMost}
 use Rattle.walk.proofs.Tests.{and-true, le?-sound, le?-complete, le?-fails}
-use Rattle.walk.proofs.SoundnessLaws.{few-live, steppable}
+use Rattle.walk.proofs.SoundnessLaws.{IsSound, few-live, steppable}
 use Rattle.plan.specs.Places.{overTo, joinTo}
 use Rattle.plan.specs.Plan.{thresholdAt, spendingOf, planRefusal, Accepted}
 use Rattle.bucket_choice.specs.Choice.{chosenBucket}
 use Rattle.bucket_test.specs.Words.{partAt, wordsFit}
-use Rattle.bucket_test.specs.Turn.{recordAt, wideOpen, MayTurn, recordSound, recordTurn, partTurn, recordSoundAt, MayTurnAt}
+use Rattle.bucket_test.specs.Turn.{recordAt, wideOpen, MayTurn, numbersSound, recordSound, recordTurn, partTurn, recordSoundAt, MayTurnAt}
 use Rattle.bucket_test.specs.Answers.{lowOf, highOf, answerOf, isEnding}
 use Rattle.bucket_test.specs.Draw.{Outcome, drawnOf, startState, startWords, noState, beginRefusal, begunBy, begunOver, begun, stateSound, drawRefusalOver, drawRefusal, nextState, nextWords, drawnBy, drawnOver, drawn, reportOver, report}
 use Rattle.bucket_test.specs.declared.Threshold.{Threshold}
@@ -32,13 +33,30 @@ use Rattle.plan.proofs.AcceptedLaws.{accepted, threshold-ok, spends}
 use Rattle.bucket_test.proofs.AnsweringLaws.{not-over, thin-at}
 use Rattle.bucket_test.proofs.TurningLaws.{part-length}
 
+-- ---- refusal 11 of one threshold
+
+-- by its numbers alone, whatever its words
+pub numbers-fail : (e n S : ℕ) (m : Mark) (t : Threshold) (part : List ℕ) → numbersSound e n S m t ≡ false → false ≡ recordSound e n S m t part
+numbers-fail e n S Open t part h = rw h
+numbers-fail e n S (Above u) t part h = sym h
+numbers-fail e n S (AtMost u) t part h = sym h
+
+-- what it tells of an open one
+pub open-sound : (e n S : ℕ) (t : Threshold) (part : List ℕ) → recordSound e n S Open t part ≡ true
+    → (roundedFits n (t .walked) ≡ true) × IsSound e n S (t .walked) part
+open-sound e n S t part h =
+    let both = and-true (numbersSound e n S Open t) _ h in
+    let front = and-true (roundedFits n (t .walked)) _ (both .0) in
+    (front .0, (front .1, both .1))
+
 -- ---- a threshold that refusal 11 lets through and that is not wide may have its turn
 
 may-turn-by : (E : ℕ → ℕ) (n S a : ℕ) → a ≤ million → IsSpending E → n ≤ horizonLimit → (t : Threshold) (part : List ℕ)
     → (m : Mark) → (m ≡ Open → t .walked .upper - firstAbove (t .walked .lower) < length part)
     → recordSound (E n) n S m t part ≡ true → (markOpen m && isWide (t .walked)) ≡ false → MayTurn a (E (suc n)) m t part
 may-turn-by E n S a threshold spends early t part Open room sound thin =
-    steppable E n S (t .walked) part (room refl) a threshold spends early thin sound
+    let h = open-sound (E n) n S t part sound in
+    steppable E n S (t .walked) part (room refl) a threshold spends early thin (h .0) (h .1)
 may-turn-by E n S a threshold spends early t part (Above u) room sound thin = tt
 may-turn-by E n S a threshold spends early t part (AtMost u) room sound thin = tt
 
@@ -52,7 +70,9 @@ module _ (p : Plan) (ok : Accepted p) (i : ℕ) (l : i < p .count) (n S : ℕ) (
       may-turn-by (spendingOf p i) n S (thresholdAt p i) (threshold-ok p ok i l) (spends p ok i l) early t part (t .mark) room sound thin
 
   may-turn-wide : length part ≡ wide → MayTurn (thresholdAt p i) (spendingOf p i (suc n)) (t .mark) t part
-  may-turn-wide size = may-turn-in (λ is. omega (arith, few-live (spendingOf p i n) n S (t .walked) part (rw is at sound) (rw is at thin)))
+  may-turn-wide size = may-turn-in (λ is.
+      let h = open-sound (spendingOf p i n) n S t part (rw is at sound) in
+      omega (arith, few-live (spendingOf p i n) n S (t .walked) (h .1 .0) (rw is at thin)))
 
 -- ---- a draw that nothing refuses
 

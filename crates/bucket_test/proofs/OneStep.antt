@@ -12,13 +12,12 @@ use Rattle.walk.specs.Spending.{IsSpending}
 use Rattle.walk.specs.Walk.{Walk, stepWalk}
 use Rattle.walk.specs.Row.{Row, stepRow}
 use Rattle.walk.specs.Record.{firstAbove, rowOf, recordOf, isWide, padded}
-use Rattle.walk.specs.Soundness.{isSound}
 use Rattle.walk.specs.Facts.{asWalk, StepFacts}
 use Rattle.walk.specs.declared.Mark.{Mark}
 use Rattle.walk.specs.declared.Mark.the-variants.{Open, Above, AtMost}
 use Rattle.walk.specs.declared.Walked.{Walked}
 use Rattle.walk.proofs.WalkFacts.{step-facts}
-use Rattle.walk.proofs.SoundnessLaws.{padded-length, sound-between, checked, narrow}
+use Rattle.walk.proofs.SoundnessLaws.{padded-length, boundaries-say, IsSound, checked, narrow}
 use Rattle.walk.proofs.RecordLaws.{judged-same, judged-on, judged-open}
 use Rattle.plan.specs.Places.{unless, firstRefusal}
 use Rattle.plan.specs.Plan.{thresholdAt, spendingOf, planRefusal, Accepted}
@@ -35,18 +34,18 @@ use Rattle.plan.proofs.PlaceLists.{over-length, over-get, over-drop, join-lengt
 use Rattle.plan.proofs.AcceptedLaws.{accepted, threshold-ok, spends}
 use Rattle.bucket_test.proofs.PartLaws.{words-say, join-part}
 use Rattle.bucket_test.proofs.TurningLaws.{part-length, stands}
-use Rattle.bucket_test.proofs.DrawingLaws.{sound-at, drawn-by}
+use Rattle.bucket_test.proofs.DrawingLaws.{open-sound, sound-at, drawn-by}
 use Rattle.bucket_test.proofs.AnsweringLaws.{not-over, thin-at}
 
 -- ---- an open threshold that refusal 11 lets through and that is not wide
 
 module _ (a : ℕ) (threshold : a ≤ million) (E : ℕ → ℕ) (spends : IsSpending E) (n S : ℕ) (w : Walked) (part : List ℕ)
-    (size : length part ≡ wide) (sound : isSound (E n) n S w part ≡ true) (thin : isWide w ≡ false) where
+    (size : length part ≡ wide) (sound : IsSound (E n) n S w part) (thin : isWide w ≡ false) where
   abbrev next : Row
   next = stepRow a (E (suc n)) (rowOf w part)
 
   held : w .upper - firstAbove (w .lower) ≤ length part
-  held = omega (arith, sound-between (E n) n S w part sound .fits)
+  held = omega (arith, boundaries-say (E n) n S w (sound .0) .fits)
 
   -- by count, as the rules have it
   abbrev stepped : Walk
@@ -112,9 +111,9 @@ module _ (p : Plan) (s : State) (ws : List ℕ) (d : ℕ) where
           none : length (s .records) ≤ i → ⊥
           none h =
               let b =
-              sound-between (spendingOf p i (s .n)) (s .n) (s .ones) (noRecord .walked) (partAt i ws)
+              open-sound (spendingOf p i (s .n)) (s .n) (s .ones) noRecord (partAt i ws)
               (rw (List·getD-eq-default (s .records) noRecord {n = i} h) at (sound-at p s ws good fits open-yet sound i l)) in
-              omega (arith, b .to)
+              omega (arith, boundaries-say (spendingOf p i (s .n)) (s .n) (s .ones) (noRecord .walked) (b .1 .0) .to)
 
       pub record-next : recordAt (nextState p s ws d) i ≡ recordTurned i (recordAt s i .mark)
       unfolding nextState
@@ -128,7 +127,8 @@ module _ (p : Plan) (s : State) (ws : List ℕ) (d : ℕ) where
       open-walks is =
           next-walks (thresholdAt p i) (threshold-ok p ok i l) (spendingOf p i) (spends p ok i l) (s .n) (s .ones)
           (recordAt s i .walked) (partAt i ws) size
-          (rw is at (sound-at p s ws good fits open-yet sound i l)) (rw is at (thin-at p s (not-over p s open-yet .0) i l)) (s .ones + d)
+          (open-sound (spendingOf p i (s .n)) (s .n) (s .ones) (recordAt s i) (partAt i ws) (rw is at (sound-at p s ws good fits open-yet sound i l)) .1)
+          (rw is at (thin-at p s (not-over p s open-yet .0) i l)) (s .ones + d)
 
       -- a settled one stays
       stays : (m : Mark) → ¬ (m ≡ Open) → (recordTurned i m ≡ recordAt s i) × (partTurned i m ≡ partAt i ws)

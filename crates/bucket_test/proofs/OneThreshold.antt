@@ -3,7 +3,9 @@
 use mathlib.Core.Path.{_≡_, refl, ap, _∙_}
 use mathlib.Core.Bool.{Bool, true, false}
 use mathlib.Core.List.{List, _∷_}
-use Prim.Native.Nat.{ℕ, suc, _≤_}
+use Prim.Native.Nat.{ℕ, suc, _*_, _≤_}
+use native.Mathlib.Nat.{mul-le-mul-left}
+use native.Mathlib.Omega.{arith}
 use lib.ListN.{length}
 use Rattle.walk.specs.Numbers.{le?, lt?}
 use Rattle.walk.specs.Units.{million, wide}
@@ -12,18 +14,22 @@ use Rattle.walk.specs.Walk.{walk, firstAt, upperAt, NoWideBefore}
 use Rattle.walk.specs.Row.{Row, upper, rows}
 use Rattle.walk.specs.Strings.{Draws, ones, Side, Upper, Lower, judged, orElse, settled, lastStep}
 use Rattle.walk.specs.Record.{recordOf, padded, startPart}
+use Rattle.walk.specs.Chance.{meeting, Bounds}
+use Rattle.walk.specs.Soundness.{roundedFits}
 use Rattle.walk.specs.declared.Mark.{Mark}
 use Rattle.walk.specs.declared.Mark.the-variants.{Open, Above, AtMost}
 use Rattle.walk.specs.declared.Walked.{Walked}
 use Rattle.walk.proofs.Tests.{le?-complete}
 use Rattle.walk.proofs.RowSteps.{rows-fit}
 use Rattle.walk.proofs.Agreement.{same, in-order, not-wide}
+use Rattle.walk.proofs.Chances.{chances-by-rounding}
+use Rattle.walk.proofs.WalkFacts.{walk-facts}
 use Rattle.walk.proofs.Meeting.{last-settled, mark-meets, mark-open}
-use Rattle.walk.proofs.SoundnessLaws.{padded-length, row-back, walk-passes}
+use Rattle.walk.proofs.SoundnessLaws.{padded-length, row-back, walk-passes, rounded-passes}
 use Rattle.walk.proofs.RecordLaws.{start-walked, start-words, rows-zero, rows-suc, markOf, verdictOf, mark-cons, verdict-row, verdict-record, open-inside, narrow-next}
 use Rattle.bucket_test.specs.Words.{Stands}
 use Rattle.bucket_test.specs.Turn.{startRecord, marked, walkedOn, turnRecord, turnPart, recordSound}
-use Rattle.bucket_test.specs.Demand3.{Marks}
+use Rattle.bucket_test.specs.Demand3.{spentIn, Marks, Excess}
 use Rattle.bucket_test.specs.declared.Threshold.{Threshold}
 use Rattle.bucket_test.proofs.TurningLaws.{stands}
 
@@ -108,18 +114,23 @@ module _ (a : ℕ) (E : ℕ → ℕ) where
           padded-length (rows a E t .masses) (rows-fit a threshold E spends t (not-wide a threshold E spends t .0 none))
 
       -- refusal 11 lets it through
+      counted : (t : ℕ) → NoWideBefore a E t → t ≤ length s → roundedFits (length s) (recordOf (rows a E t)) ≡ true
+      counted t n to = rounded-passes a threshold E spends t (length s) to (not-wide a threshold E spends t .0 n)
+
       sound-by : (m : Mark) → markOf a E s ≡ m → NoWideBefore a E (lastStep m (length s))
           → recordSound (E (length s)) (length s) (ones s) m (recordFor m (length s)) (partFor m (length s)) ≡ true
       unfolding recordFor partFor
       sound-by Open e n =
           let i = open-inside a E threshold spends s e in
-          walk-passes a threshold E spends (length s) (ones s) (not-wide a threshold E spends (length s) .0 n) (i .0) (i .1)
+          let none = not-wide a threshold E spends (length s) .0 n in
+          let w = walk-passes a threshold E spends (length s) (ones s) none (i .0) (i .1) in
+          cc (counted (length s) n (omega arith), w .0, w .1)
       sound-by (Above t) e n =
           let h = mark-meets (firstAt a E) (upperAt a E) orders s Upper t .0 e in
-          cc (le?-complete 1 t (h .from), le?-complete t (length s) (h .to))
+          cc (counted t n (h .to), le?-complete 1 t (h .from), le?-complete t (length s) (h .to))
       sound-by (AtMost t) e n =
           let h = mark-meets (firstAt a E) (upperAt a E) orders s Lower t .0 e in
-          cc (le?-complete 1 t (h .from), le?-complete t (length s) (h .to))
+          cc (counted t n (h .to), le?-complete 1 t (h .from), le?-complete t (length s) (h .to))
 
       pub record-sound : let m = markOf a E s in recordSound (E (length s)) (length s) (ones s) m (recordFor m (length s)) (partFor m (length s)) ≡ true
       record-sound = sound-by (markOf a E s) refl none
@@ -129,6 +140,25 @@ module _ (a : ℕ) (E : ℕ → ℕ) where
     pub stands-at : (m : Mark) (n : ℕ) → length (partFor m n) ≡ wide → Stands (walk a E (lastStep m n)) (recordFor m n .walked) (partFor m n)
     unfolding recordFor partFor
     stands-at m n size = stands (same a threshold E spends (lastStep m n)) size
+
+    -- ---- the number of masses rounded in a record that stands at the last step walked
+
+    last-le : (s : Draws) (m : Mark) → markOf a E s ≡ m → lastStep m (length s) ≤ length s
+    last-le s Open e = omega arith
+    last-le s (Above t) e = mark-meets (firstAt a E) (upperAt a E) orders s Upper t .0 e .to
+    last-le s (AtMost t) e = mark-meets (firstAt a E) (upperAt a E) orders s Lower t .0 e .to
+
+    module _ (s : Draws) (m : Mark) (is : markOf a E s ≡ m) (none : NoWideBefore a E (lastStep m (length s))) {r : Walked} {part : List ℕ}
+        (h : Stands (walk a E (lastStep m (length s))) r part) where
+      few : r .rounded ≤ wide * lastStep m (length s)
+      few = omega (arith, h .rounded-is, walk-facts a threshold E spends (lastStep m (length s)) .few none)
+
+      bounded : (side : Side) → Bounds (lastStep m (length s)) (meeting a E side (lastStep m (length s))) (spentIn side r) (r .rounded)
+      bounded Upper = rw (h .over-is, h .rounded-is) (chances-by-rounding a threshold E spends Upper (lastStep m (length s)) none)
+      bounded Lower = rw (h .under-is, h .rounded-is) (chances-by-rounding a threshold E spends Lower (lastStep m (length s)) none)
+
+      pub excess-says : Excess a E (lastStep m (length s)) (length s) r
+      excess-says = record { by-steps = few; by-draws = omega (arith, few, mul-le-mul-left wide (last-le s m is)); bounds = bounded }
 
     -- ---- one more draw, where the row was not wide
 

@@ -1,10 +1,12 @@
--- P1 to P10 and the narrowest bucket, in one statement.
+-- P1 to P10, numbers of masses rounded and the narrowest bucket, in one statement.
 use mathlib.Core.Path.{refl}
 use Rattle.walk.specs.Numbers.{le?, searchUp, searchDown}
-use Rattle.walk.specs.Units.{M, million, massLimit, allowanceLimit, horizonLimit}
+use Rattle.walk.specs.Units.{M, million, wide, massLimit, allowanceLimit, horizonLimit}
 use Rattle.walk.specs.Spending.{spending}
-use Rattle.walk.specs.Mass.{rounds, roundUp, reaching, massUp}
+use Rattle.walk.specs.Mass.{rounds, roundUp, reaching, massUp, rounding}
 use Rattle.walk.specs.Walk.{below, lower, massFrom, massBelow, upperBoundary, firstLive, start, absorbed, stepWalk, walk}
+use Rattle.walk.specs.Record.{firstAbove, rowOf}
+use Rattle.walk.specs.Soundness.{roundedFits, boundariesSound, wordsSound}
 use Rattle.plan.specs.Places.{eq?, allTo, anyTo, largestTo, smallestTo}
 use Rattle.plan.specs.Plan.{countsFit, spendingOf, rule1, aboveBefore, rule2, rule3, rule4, permitted, bucketFits, rule5, coveredAbove, rule6, planRefusal}
 use Rattle.bucket_choice.specs.Choice.{contains, narrower, narrowest, chosenBucket}
@@ -15,7 +17,7 @@ use Rattle.bucket_test.specs.Trials.{computed, printed, TrialsTheorem}
 
 pub trials : TrialsTheorem
 unfolding computed printed planF spendingOf spending walk start stepWalk absorbed upperBoundary firstLive massFrom massBelow searchUp searchDown
-    lower below massUp reaching roundUp rounds million M massLimit allowanceLimit horizonLimit le? eq? allTo anyTo largestTo smallestTo
+    lower below massUp rounding reaching roundUp rounds million M wide massLimit allowanceLimit horizonLimit le? eq? allTo anyTo largestTo smallestTo
     countsFit rule1 aboveBefore rule2 rule3 rule4 permitted bucketFits rule5 coveredAbove rule6 planRefusal lowOf highOf answerBy answerOver
-    contains narrower narrowest chosenBucket startRecord
+    contains narrower narrowest chosenBucket startRecord firstAbove rowOf roundedFits boundariesSound wordsSound
 trials = (refl, (refl, (refl, refl)))

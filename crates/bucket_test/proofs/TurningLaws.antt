@@ -103,6 +103,7 @@ stands {w} {r} s size =
       upper-is = e .1;
       over-is = e .2;
       under-is = e .3;
+      rounded-is = e .4;
       size = size;
       fits = fits-same s size;
       masses = λ j l. padded-word (r .masses) j ∙ sym (word-same s j);

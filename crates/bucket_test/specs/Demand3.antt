@@ -7,11 +7,12 @@ use Prim.Native.Nat.{ℕ, _*_, _^_, _≤_, _<_}
 use lib.ListN.{length}
 use Rattle.walk.specs.Units.{M, million, wide}
 use Rattle.walk.specs.Walk.{walk, NoWideBefore}
-use Rattle.walk.specs.Strings.{Draws, ones, Side, settled, lastStep}
+use Rattle.walk.specs.Strings.{Draws, ones, Side, Upper, Lower, settled, lastStep}
 use Rattle.walk.specs.Facts.{WalkFacts}
 use Rattle.walk.specs.Chance.{Meets, meets?, meeting, spent, Bounds}
 use Rattle.walk.specs.declared.Mark.{Mark}
 use Rattle.walk.specs.declared.Mark.the-variants.{Open}
+use Rattle.walk.specs.declared.Walked.{Walked}
 use Rattle.plan.specs.Plan.{thresholdAt, spendingOf, Accepted}
 use Rattle.bucket_test.specs.Words.{partAt, Stands}
 use Rattle.bucket_test.specs.Turn.{recordAt}
@@ -23,11 +24,23 @@ use Rattle.bucket_test.specs.declared.Answer.the-variants.{Open as OpenA
 
 -- ---- one threshold a with the spending E, after the draws s
 
+-- a record's spent mass of a side
+abbrev pub spentIn : Side → Walked → ℕ
+spentIn Upper r = r .over
+spentIn Lower r = r .under
+
 module _ (a : ℕ) (E : ℕ → ℕ) where
   -- its mark is settled on a side at step t exactly when the draws meet that side's boundary first at t; else it is open
   pub record Marks (s : Draws) (m : Mark) : Type 0 where
     pub settles : (side : Side) (t : ℕ) → (m ≡ settled side t) ↔ Meets a E side t s
     pub else-open : (m ≡ Open) ↔ ((side : Side) (t : ℕ) → ¬ (Meets a E side t s))
+
+  -- after n draws, of which it walked t, the number of masses rounded in its record r is at most 769 for each step walked, and so for each draw; by no
+  -- more units does either spent mass in r exceed the exact chance
+  pub record Excess (t n : ℕ) (r : Walked) : Type 0 where
+    pub by-steps : r .rounded ≤ wide * t
+    pub by-draws : r .rounded ≤ wide * n
+    pub bounds : (side : Side) → Bounds t (meeting a E side t) (spentIn side r) (r .rounded)
 
 -- ---- the claim on the whole list and all strings
 
@@ -56,6 +69,9 @@ module _ (p : Plan) (words : List ℕ) where
     pub stands : (i : ℕ) → i < p .count
         → Stands (walk (thresholdAt p i) (spendingOf p i) (lastStep (recordAt (carried p words ds .state) i .mark) (length (taken p words ds))))
         (recordAt (carried p words ds .state) i .walked) (partAt i (carried p words ds .words))
+    pub excess : (i : ℕ) → i < p .count
+        → Excess (thresholdAt p i) (spendingOf p i) (lastStep (recordAt (carried p words ds .state) i .mark) (length (taken p words ds)))
+        (length (taken p words ds)) (recordAt (carried p words ds .state) i .walked)
     -- no threshold walked past its first wide step
     pub not-continued : (i : ℕ) → i < p .count
         → NoWideBefore (thresholdAt p i) (spendingOf p i) (lastStep (recordAt (carried p words ds .state) i .mark) (length (taken p words ds)))
@@ -68,8 +84,13 @@ module _ (p : Plan) (words : List ℕ) where
     -- .. E(n) bounds it from n = 0 on, wide or not ..
     pub allowed : (i : ℕ) → i < p .count → (n : ℕ) (side : Side)
         → meeting (thresholdAt p i) (spendingOf p i) side n * M ≤ spendingOf p i n * million ^ n
-    -- .. and the spent mass bounds it in both directions, from n = 0 on and up to the first wide step, after which no walk goes on
+    -- .. and the spent mass bounds it in both directions, within a unit for each mass rounded, from n = 0 on and up to the first wide step,
+    -- after which no walk goes on ..
     pub chances : (i : ℕ) → i < p .count → (n : ℕ) → NoWideBefore (thresholdAt p i) (spendingOf p i) n → (side : Side)
+        → Bounds n (meeting (thresholdAt p i) (spendingOf p i) side n) (spent side (walk (thresholdAt p i) (spendingOf p i) n))
+        (walk (thresholdAt p i) (spendingOf p i) n .rounded)
+    -- .. so within 769 units for each step
+    pub chances-by-steps : (i : ℕ) → i < p .count → (n : ℕ) → NoWideBefore (thresholdAt p i) (spendingOf p i) n → (side : Side)
         → Bounds n (meeting (thresholdAt p i) (spendingOf p i) side n) (spent side (walk (thresholdAt p i) (spendingOf p i) n)) (wide * n)
 
 -- of every accepted plan, every lent words of the right number, and every list

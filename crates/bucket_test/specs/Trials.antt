@@ -1,8 +1,8 @@
--- The trials that are proved, P1 to P10 (rules 11.1), the two powers of 2, and answers that name the narrowest bucket (rules 11.4): what is
--- computed from the definitions beside what the rules print, a line each.
+-- The trials that are proved, P1 to P10 and numbers of masses rounded (rules 11.1), the two powers of 2, and answers that name the narrowest bucket
+-- (rules 11.4): what is computed from the definitions beside what the rules print, a line each.
 use mathlib.Core.Path.{_≡_}
 use mathlib.Core.List.{List, [], _∷_, _++_, map}
-use Prim.Native.Nat.{ℕ, _+_, _-_, _^_}
+use Prim.Native.Nat.{ℕ, zero, suc, _+_, _-_, _^_}
 use lib.IntN.{ℤ, pos, negsuc}
 use lib.ListN.{length, replicate}
 use Rattle.walk.specs.Units.{M, massLimit}
@@ -10,10 +10,11 @@ use Rattle.walk.specs.Spending.{spending}
 use Rattle.walk.specs.Walk.{walk, lower}
 use Rattle.walk.specs.declared.Mark.{Mark}
 use Rattle.walk.specs.declared.Mark.the-variants.{Open, Above, AtMost}
+use Rattle.plan.specs.Places.{unless}
 use Rattle.plan.specs.Plan.{countLimit, thresholdAt, spendingOf, planRefusal}
 use Rattle.plan.specs.PlanF.{planF}
 use Rattle.bucket_choice.specs.Trials.{planWith, starPlan}
-use Rattle.bucket_test.specs.Turn.{startRecord}
+use Rattle.bucket_test.specs.Turn.{startRecord, recordSound}
 use Rattle.bucket_test.specs.Answers.{lowOf, highOf, answerOf, bucketOf, wordOf}
 use Rattle.bucket_test.specs.declared.State.{State}
 use Rattle.plan.specs.declared.Plan.{Plan}
@@ -55,6 +56,18 @@ answered p s = pos (bucketOf (answerOf p s)) ∷ interval p s
 abbrev boundaries : ℕ → (ℕ → ℕ) → ℕ → List ℤ
 boundaries a E t = pos (walk a E t .upper) ∷ lower (walk a E t) ∷ []
 
+-- how many masses were rounded by each step from t on, n steps
+abbrev roundedFrom : ℕ → (ℕ → ℕ) → ℕ → ℕ → List ℤ
+roundedFrom a E t zero = []
+roundedFrom a E t (suc n) = pos (walk a E t .rounded) ∷ roundedFrom a E (suc t) n
+
+-- what refusal 11 says of plan F's threshold after two draws 0, so marked and with so many masses rounded; its walk has the boundaries 3 and -1
+abbrev refusalOf11 : Mark → ℕ → ℤ
+refusalOf11 m rounded =
+    pos (unless (recordSound (spendingF 2) 2 0 m
+    (record { mark = m; walked = record { lower = negsuc 0; upper = 3; over = 0; under = 0; rounded = rounded } })
+    (3969236976272 ∷ 417814418556 ∷ 10995116278 ∷ [])) 11)
+
 unfoldable pub computed : List (List ℤ)
 computed =
     -- the whole, and the largest live word of a state that is not spoiled
@@ -78,6 +91,13 @@ computed =
     ∷ boundaries 400000 spending5 1
     ∷ boundaries 400000 spending5 2
     ∷ boundaries 400000 spending5 3
+    -- the masses rounded by steps 1 to 10 of plan F, and 1 to 6 of P5
+    ∷ roundedFrom thresholdF spendingF 1 10
+    ∷ roundedFrom 400000 spending5 1 6
+    -- 769 × 2 masses rounded, and one more: open, and settled at step 1
+    ∷ (refusalOf11 Open 1538 ∷ refusalOf11 Open 1539 ∷ [])
+    ∷ (refusalOf11 (Above 1) 1538 ∷ refusalOf11 (Above 1) 1539 ∷ [])
+    ∷ (refusalOf11 (AtMost 1) 1538 ∷ refusalOf11 (AtMost 1) 1539 ∷ [])
     -- P7: low and high
     ∷ interval (planOfTwo 4398046511 50000) (stateMarked (Above 5 ∷ Open ∷ []))
     -- P8: the word
@@ -116,6 +136,12 @@ printed =
     ∷ (pos 2 ∷ negsuc 0 ∷ [])
     ∷ (pos 2 ∷ negsuc 0 ∷ [])
     ∷ (pos 2 ∷ pos 0 ∷ [])
+    -- the masses rounded
+    ∷ (pos 2 ∷ pos 5 ∷ pos 9 ∷ pos 14 ∷ pos 20 ∷ pos 25 ∷ pos 31 ∷ pos 37 ∷ pos 43 ∷ pos 50 ∷ [])
+    ∷ (pos 2 ∷ pos 5 ∷ pos 8 ∷ pos 10 ∷ pos 12 ∷ pos 15 ∷ [])
+    ∷ (pos 0 ∷ pos 11 ∷ [])
+    ∷ (pos 0 ∷ pos 11 ∷ [])
+    ∷ (pos 0 ∷ pos 11 ∷ [])
     -- P7
     ∷ (pos 10000 ∷ pos 1000000 ∷ [])
     -- P8: crossed

@@ -9,7 +9,7 @@ use Rattle.walk.specs.Numbers.{le?}
 use Rattle.walk.specs.Row.{Row, stepRow}
 use Rattle.walk.specs.Strings.{judged, markOpen}
 use Rattle.walk.specs.Record.{rowOf, recordOf, padded, startWalked, isWide}
-use Rattle.walk.specs.Soundness.{isSound, Steppable}
+use Rattle.walk.specs.Soundness.{roundedFits, boundariesSound, wordsSound, Steppable}
 use Rattle.walk.specs.declared.Mark.{Mark}
 use Rattle.walk.specs.declared.Mark.the-variants.{Open, Above, AtMost}
 use Rattle.walk.specs.declared.Walked.{Walked}
@@ -28,7 +28,7 @@ unfoldable pub startRecord : Threshold
 startRecord = openRecord startWalked
 
 abbrev pub noWalked : Walked
-noWalked = record { lower = pos 0; upper = 0; over = 0; under = 0 }
+noWalked = record { lower = pos 0; upper = 0; over = 0; under = 0; rounded = 0 }
 
 abbrev pub noRecord : Threshold
 noRecord = openRecord noWalked
@@ -65,11 +65,22 @@ MayTurn a e Open t part = Steppable a e (t .walked) part
 MayTurn a e (Above u) t part = Unit
 MayTurn a e (AtMost u) t part = Unit
 
--- refusal 11, of one threshold after n draws with S ones, e = E(n): a settled mark's step is from 1 to n; an open one is sound
+-- refusal 11, of one threshold after n draws with S ones, e = E(n). By its mark: the boundaries and spent masses of an open one are sound; a settled
+-- one's step is from 1 to n
+abbrev pub markSound : ℕ → ℕ → ℕ → Mark → Walked → Bool
+markSound e n S Open w = boundariesSound e n S w
+markSound e n S (Above u) w = within 1 n u
+markSound e n S (AtMost u) w = within 1 n u
+
+-- .. open or settled, its number of masses rounded fits too
+abbrev pub numbersSound : ℕ → ℕ → ℕ → Mark → Threshold → Bool
+numbersSound e n S m t = roundedFits n (t .walked) && markSound e n S m (t .walked)
+
+-- .. and the words of an open one are sound
 abbrev pub recordSound : ℕ → ℕ → ℕ → Mark → Threshold → List ℕ → Bool
-recordSound e n S Open t part = isSound e n S (t .walked) part
-recordSound e n S (Above u) t part = within 1 n u
-recordSound e n S (AtMost u) t part = within 1 n u
+recordSound e n S Open t part = numbersSound e n S Open t && wordsSound (t .walked) part
+recordSound e n S (Above u) t part = numbersSound e n S (Above u) t
+recordSound e n S (AtMost u) t part = numbersSound e n S (AtMost u) t
 
 -- ---- the threshold at place i of a plan, whose record is t, with its part of the words
 

@@ -18,13 +18,14 @@ partAt i words = take wide (drop (wide * i) words)
 unfoldable pub wordsFit : Plan → List ℕ → Bool
 wordsFit p words = eq? (length words) (wide * p .count)
 
--- a record and a part hold the boundaries, spent masses and masses of the walk w: word j is the mass at count lower + 1 + j, and words after
--- the live counts are zero
+-- a record and a part hold the boundaries, spent masses, number of masses rounded and masses of the walk w: word j is the mass at count
+-- lower + 1 + j, and words after the live counts are zero
 pub record Stands (w : Walk) (r : Walked) (part : List ℕ) : Type 0 where
   pub lower-is : r .lower ≡ lower w
   pub upper-is : r .upper ≡ w .upper
   pub over-is : r .over ≡ w .over
   pub under-is : r .under ≡ w .under
+  pub rounded-is : r .rounded ≡ w .rounded
   pub size : length part ≡ wide
   -- each live count has its word
   pub fits : w .upper ≤ w .first + wide

@@ -6,7 +6,9 @@ use plan::Plan;
 use plan::rules::within;
 use walk::Mark;
 use walk::WIDE;
-use walk::soundness::is_sound;
+use walk::soundness::boundaries_sound;
+use walk::soundness::rounded_fits;
+use walk::soundness::words_sound;
 use walk::spending::spending_at;
 ghost use mathlib.Core.Path.{_≡_};
 ghost use Prim.Native.Nat.{_*_, _≤_};
@@ -14,21 +16,37 @@ ghost use lib.ListN.{length};
 ghost use Rattle.walk.specs.Units.{wide, horizonLimit};
 ghost use Rattle.plan.specs.Places.{allTo};
 ghost use Rattle.plan.specs.Plan.{planRefusal};
-ghost use Rattle.bucket_test.specs.Turn.{recordAt, recordSound, recordSoundAt};
+ghost use Rattle.bucket_test.specs.Turn.{recordAt, numbersSound, recordSound, recordSoundAt};
 ghost use Rattle.bucket_test.specs.Draw.{stateSound};
 
-// Of any record and any words: they pass refusal 11 after n draws with so many ones, with e = E(n).
+// Of any record: it passes refusal 11 but for its words, after n draws with so many ones, with e = E(n).
+pub fn numbers_sound(t: Threshold, e: u64, n: u32, ones: u32) -> bool
+    ensures { λ r. ⌜ r ≡ numbersSound e n ones (t .mark) t ⌝ }
+{
+    let w = t.walked;
+    if !rounded_fits(w, n) {
+        return false;
+    }
+    let mark = t.mark;
+    match mark {
+        Mark::Open => boundaries_sound(w, n, ones, e),
+        Mark::Above(u) => within(u, 1, n),
+        Mark::AtMost(u) => within(u, 1, n),
+    }
+}
+
+// .. and with any words.
 fn record_sound(t: Threshold, part: &[u64], e: u64, n: u32, ones: u32) -> bool
     ensures { λ r. ⌜ r ≡ recordSound e n ones (t .mark) t (now (part .entry)) ⌝ }
 {
+    if !numbers_sound(t, e, n, ones) {
+        return false;
+    }
     let mark = t.mark;
     match mark {
-        Mark::Open => {
-            let w = t.walked;
-            is_sound(part, w, n, ones, e)
-        }
-        Mark::Above(u) => within(u, 1, n),
-        Mark::AtMost(u) => within(u, 1, n),
+        Mark::Open => words_sound(part, t.walked),
+        Mark::Above(_) => true,
+        Mark::AtMost(_) => true,
     }
 }
 

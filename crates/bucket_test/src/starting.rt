@@ -43,6 +43,7 @@ pub fn no_walked() -> Walked
         upper: 0,
         over: 0,
         under: 0,
+        rounded: 0,
     }
 }
 

@@ -60,6 +60,7 @@ may-by a e t part q Open same room h =
       signed = h .signed;
       narrow = h .narrow;
       early = h .early;
+      rounded-fits = h .rounded-fits;
       small = rw row (h .small);
       sound = rw row (h .sound);
     }

@@ -65,7 +65,7 @@ answerNumber (answers.Refused r) = r
 abbrev pub recordIn : HostRecord → Threshold
 recordIn r = record {
   mark = markIn (r .mark) (r .step);
-  walked = record { lower = r .lower; upper = r .upper; over = r .over; under = r .under };
+  walked = record { lower = r .lower; upper = r .upper; over = r .over; under = r .under; rounded = r .rounded };
 }
 
 abbrev pub recordOut : Threshold → HostRecord
@@ -76,6 +76,7 @@ recordOut t = record {
   upper = t .walked .upper;
   over = t .walked .over;
   under = t .walked .under;
+  rounded = t .walked .rounded;
 }
 
 abbrev pub stateIn : HostState → State

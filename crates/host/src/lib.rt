@@ -54,6 +54,7 @@ pub struct HostRecord {
     pub upper: u32,
     pub over: u64,
     pub under: u64,
+    pub rounded: u32,
 }
 
 // A state, with the answer of the call that handed it back: 0 open, 1 decided, 2 crossed, 3 wide, 4 spent, 5 refused, and the number of the

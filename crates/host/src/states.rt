@@ -82,6 +82,7 @@ fn record_in(r: HostRecord) -> Threshold
         upper: r.upper,
         over: r.over,
         under: r.under,
+        rounded: r.rounded,
     };
     Threshold { mark, walked }
 }
@@ -98,6 +99,7 @@ fn record_out(t: Threshold) -> HostRecord
         upper: w.upper,
         over: w.over,
         under: w.under,
+        rounded: w.rounded,
     }
 }
 

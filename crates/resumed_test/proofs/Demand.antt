@@ -283,7 +283,7 @@ module _ (p : Plan) (ok : Accepted p) (words : List ℕ) (size : length words �
     recorded-now : Recorded p words (lastWalk p words ms i) (recordAt (stateNow p words ms) i .walked)
     recorded-now =
         let s = d .stands i l in
-        rw (t .alike .record-same i l) record { lower-is = s .lower-is; upper-is = s .upper-is; over-is = s .over-is; under-is = s .under-is }
+        rw (t .alike .record-same i l) record { lower-is = s .lower-is; upper-is = s .upper-is; over-is = s .over-is; under-is = s .under-is; rounded-is = s .rounded-is }
 
     stands-now : (Stands (lastWalk p words ms i) (recordAt (stateNow p words ms) i .walked) (partNow p words ms i))
         ⊎ ((¬ (recordAt (stateNow p words ms) i .mark ≡ Open)) × SavedSince p words ms (markStep (recordAt (stateNow p words ms) i .mark))
@@ -299,6 +299,7 @@ module _ (p : Plan) (ok : Accepted p) (words : List ℕ) (size : length words �
     ones-is = t .alike .ones-same ∙ d .ones-is;
     marks = λ i l. rw (t .alike .record-same i l) (d .marks i l);
     recorded = recorded-now;
+    excess = λ i l. rw (t .alike .record-same i l) (d .excess i l);
     stands = stands-now;
     same-test = t .alike;
   }

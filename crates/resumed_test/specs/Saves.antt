@@ -16,7 +16,7 @@ use Rattle.bucket_test.specs.Turn.{recordAt}
 use Rattle.bucket_test.specs.Answers.{answerOf, refusalOf}
 use Rattle.bucket_test.specs.Draw.{Outcome, begun, drawn}
 use Rattle.bucket_test.specs.Carried.{carried, hasEnded, taken}
-use Rattle.bucket_test.specs.Demand3.{Marks, AnswersDraw, Demand3}
+use Rattle.bucket_test.specs.Demand3.{Marks, Excess, AnswersDraw, Demand3}
 use Rattle.plan.specs.declared.Plan.{Plan}
 use Rattle.bucket_test.specs.declared.State.{State}
 use Rattle.bucket_test.specs.declared.Answer.{Answer}
@@ -88,12 +88,13 @@ module _ (p : Plan) (words : List ℕ) where
   SavedSince (Draw d ∷ ms) t = SavedSince ms t
   SavedSince (Save bytes lent ∷ ms) t = (t ≤ length (taken p words (drawsOf ms))) ⊎ SavedSince ms t
 
-  -- the record r holds the boundaries and spent masses of the walk w
+  -- the record r holds the boundaries, spent masses and number of masses rounded of the walk w
   pub record Recorded (w : Walk) (r : Walked) : Type 0 where
     pub lower-is : r .lower ≡ lower w
     pub upper-is : r .upper ≡ w .upper
     pub over-is : r .over ≡ w .over
     pub under-is : r .under ≡ w .under
+    pub rounded-is : r .rounded ≡ w .rounded
 
   module _ (ms : List Move) where
     -- the draws taken, which are those of the draws alone; the state and the parts at hand; the walk of a threshold at the last step it walked
@@ -120,6 +121,9 @@ module _ (p : Plan) (words : List ℕ) where
       pub ones-is : stateNow .ones ≡ ones drawsTaken
       pub marks : (i : ℕ) → i < p .count → Marks (thresholdAt p i) (spendingOf p i) drawsTaken (recordAt stateNow i .mark)
       pub recorded : (i : ℕ) → i < p .count → Recorded (lastWalk i) (recordAt stateNow i .walked)
+      pub excess : (i : ℕ) → i < p .count
+          → Excess (thresholdAt p i) (spendingOf p i) (lastStep (recordAt stateNow i .mark) (length drawsTaken)) (length drawsTaken)
+          (recordAt stateNow i .walked)
       -- all 769 words of an open threshold are those of its last step; of a settled one so or, after a save since then, zeros
       pub stands : (i : ℕ) → i < p .count
           → Stands (lastWalk i) (recordAt stateNow i .walked) (partNow i)

@@ -7,7 +7,7 @@ use lib.IntN.{ℤ, pos, negsuc}
 use lib.ListN.{take}
 use lib.Seq.{take-take}
 use Rattle.walk.specs.Record.{firstAbove, rowOf}
-use Rattle.walk.specs.Soundness.{isSound}
+use Rattle.walk.specs.Soundness.{wordsSound}
 use Rattle.walk.specs.declared.Mark.{Mark}
 use Rattle.walk.specs.declared.Mark.the-variants.{Open, Above, AtMost}
 use Rattle.walk.specs.declared.Walked.{Walked}
@@ -35,7 +35,7 @@ gap-covers (negsuc b) u = omega arith
 pub row-same : (w : Walked) (part part′ : List ℕ) → take (countsBetween (w .lower) (w .upper)) part′ ≡ take (countsBetween (w .lower) (w .upper)) part
     → rowOf w part′ ≡ rowOf w part
 unfolding rowOf
-row-same w part part′ e = ap (λ (l : List ℕ). record { first = firstAbove (w .lower); masses = l; over = w .over; under = w .under }) masses
+row-same w part part′ e = ap (λ (l : List ℕ). record { first = firstAbove (w .lower); masses = l; over = w .over; under = w .under; rounded = w .rounded }) masses
   where
     count : ℕ
     count = w .upper - firstAbove (w .lower)
@@ -50,7 +50,7 @@ row-same w part part′ e = ap (λ (l : List ℕ). record { first = firstAbove (
 -- by its mark: the same judgement
 pub sound-by : (t : Threshold) (part part′ : List ℕ) (e n S : ℕ) (m : Mark) → take (liveBy m (t .walked)) part′ ≡ take (liveBy m (t .walked)) part
     → recordSound e n S m t part′ ≡ recordSound e n S m t part
-unfolding isSound
+unfolding wordsSound
 sound-by t part part′ e n S Open h = rw (row-same (t .walked) part part′ h)
 sound-by t part part′ e n S (Above u) h = refl
 sound-by t part part′ e n S (AtMost u) h = refl

@@ -113,11 +113,13 @@ module _ (bytes : List ℕ) where
           field-part 4 (at + 12) (omega arith),
           field-part 8 (at + 16) (omega arith),
           field-part 8 (at + 24) (omega arith),
-          part-then (at + 16) 8 8 (at + 24) (omega arith),
-          part-then (at + 12) 4 16 (at + 16) (omega arith),
-          part-then (at + 8) 4 20 (at + 12) (omega arith),
-          part-then (at + 4) 4 24 (at + 8) (omega arith),
-        ) (part-join at 4 28)
+          field-part 4 (at + 32) (omega arith),
+          part-then (at + 24) 8 4 (at + 32) (omega arith),
+          part-then (at + 16) 8 12 (at + 24) (omega arith),
+          part-then (at + 12) 4 20 (at + 16) (omega arith),
+          part-then (at + 8) 4 24 (at + 12) (omega arith),
+          part-then (at + 4) 4 28 (at + 8) (omega arith),
+        ) (part-join at 4 32)
 
     -- the masses of one part
     masses-part : (at count : ℕ) → count ≤ wide → at + massSize * count ≤ length bytes

@@ -41,7 +41,7 @@ bits-small : (z : ℤ) → SFits w32 z → ofZ w32 z < 256 ^ 4
 bits-small (pos n) h = omega (arith, h .sfits)
 bits-small (negsuc n) h = omega (arith, h .sfits)
 
-module _ (t : Threshold) (typed : Typed (t .walked)) (early : markStep (t .mark) < 256 ^ 4) where
+module _ (t : Threshold) (typed : Typed (t .walked)) (early : markStep (t .mark) < 256 ^ 4) (few : t .walked .rounded < 256 ^ 4) where
   abbrev w : Walked
   w = t .walked
 
@@ -75,7 +75,13 @@ module _ (t : Threshold) (typed : Typed (t .walked)) (early : markStep (t .mark)
   unfolding recordBytes
   in-under =
       field-next 8 20 4 (markCode (t .mark)) _ ∙ field-next 8 16 4 (markStep (t .mark)) _ ∙ field-next 8 12 4 (ofZ w32 (w .lower)) _
-      ∙ field-next 8 8 4 (w .upper) _ ∙ field-next 8 0 8 (w .over) _ ∙ field-last 8 (w .under) (typed .under-fits)
+      ∙ field-next 8 8 4 (w .upper) _ ∙ field-next 8 0 8 (w .over) _ ∙ field-here 8 (w .under) _ (typed .under-fits)
+
+  in-rounded : field 4 32 (recordBytes t) ≡ w .rounded
+  unfolding recordBytes
+  in-rounded =
+      field-next 4 28 4 (markCode (t .mark)) _ ∙ field-next 4 24 4 (markStep (t .mark)) _ ∙ field-next 4 20 4 (ofZ w32 (w .lower)) _
+      ∙ field-next 4 16 4 (w .upper) _ ∙ field-next 4 8 8 (w .over) _ ∙ field-next 4 0 8 (w .under) _ ∙ field-last 4 (w .rounded) few
 
   -- bytes that have the record at an offset
   module _ (bytes : List ℕ) (at : ℕ) (here : (width o : ℕ) → o + width ≤ recordSize → field width (at + o) bytes ≡ field width o (recordBytes t)) where
@@ -92,7 +98,7 @@ module _ (t : Threshold) (typed : Typed (t .walked)) (early : markStep (t .mark)
     unfolding recordFrom
     record-from = λ j. record {
       mark = mark-is j;
-      walked = record { lower = lower-is j; upper = upper-is j; over = over-is j; under = under-is j };
+      walked = record { lower = lower-is j; upper = upper-is j; over = over-is j; under = under-is j; rounded = rounded-is j };
     }
       where
         mark-is : markOf (field 4 at bytes) (field 4 (at + 4) bytes) ≡ t .mark
@@ -109,6 +115,9 @@ module _ (t : Threshold) (typed : Typed (t .walked)) (early : markStep (t .mark)
 
         under-is : field 8 (at + 24) bytes ≡ w .under
         under-is = here 8 24 (omega arith) ∙ in-under
+
+        rounded-is : field 4 (at + 32) bytes ≡ w .rounded
+        rounded-is = here 4 32 (omega arith) ∙ in-rounded
 
 -- a mass of a part
 mass-at : (count : ℕ) (part : List ℕ) (j : ℕ) → j < count → getD part j 0 < 256 ^ 8 → field massSize (massSize * j) (massBytes count part) ≡ getD part j 0

@@ -1,6 +1,6 @@
 -- What is known of a test that a writing accepts (specs/Writing).
 use mathlib.Core.Path.{_≡_, refl, ap, _∙_}
-use mathlib.Core.Bool.{true}
+use mathlib.Core.Bool.{true, _&&_}
 use mathlib.Core.Logic.{_↔_}
 use mathlib.Core.List.{List, [], _∷_}
 use Prim.Native.Nat.{ℕ, zero, suc, _*_, _-_, _^_, _≤_, _<_}
@@ -13,14 +13,14 @@ use Rattle.walk.specs.Numbers.{le?, allUpTo}
 use Rattle.walk.specs.Units.{wide, massLimit, horizonLimit}
 use Rattle.walk.specs.Walk.{below}
 use Rattle.walk.specs.Record.{firstAbove, rowOf}
-use Rattle.walk.specs.Soundness.{boundariesSound, isSound}
+use Rattle.walk.specs.Soundness.{roundedFits, wordsSound}
 use Rattle.walk.specs.declared.Mark.{Mark}
 use Rattle.walk.specs.declared.Mark.the-variants.{Open, Above, AtMost}
 use Rattle.walk.specs.declared.Walked.{Walked}
 use Rattle.walk.proofs.Tests.{and-true, le?-sound}
 use Rattle.walk.proofs.Lists.{all-getD}
 use Rattle.walk.proofs.SoundnessLaws.{boundaries-say}
-use Rattle.plan.specs.Places.{unless}
+use Rattle.plan.specs.Places.{within, unless}
 use Rattle.plan.specs.Plan.{spendingOf, planRefusal, Accepted}
 use Rattle.bucket_test.specs.Words.{partAt, wordsFit}
 use Rattle.bucket_test.specs.Turn.{recordAt, recordSound}
@@ -30,6 +30,7 @@ use Rattle.bucket_test.specs.declared.Threshold.{Threshold}
 use Rattle.bucket_test.specs.declared.State.{State}
 use Rattle.plan.proofs.PlaceLaws.{all-reads, within-reads, none-both, none-says, last-says}
 use Rattle.bucket_test.proofs.PartLaws.{words-say}
+use Rattle.bucket_test.proofs.DrawingLaws.{open-sound}
 use Rattle.plan.proofs.AcceptedLaws.{accepted}
 use Rattle.saved_test.specs.Form.{formLimit, recordOffset, formSize, countsBetween, liveBy, liveCount, massesTo, markStep, savedMasses, savedSize}
 use Rattle.saved_test.specs.Writing.{saveRefusal}
@@ -55,32 +56,47 @@ gap-below (suc f) u = refl
 pub gap-live : (w : Walked) → w .lower ≡ below (firstAbove (w .lower)) → countsBetween (w .lower) (w .upper) ≡ w .upper - firstAbove (w .lower)
 gap-live w signed = ap (λ (z : ℤ). countsBetween z (w .upper)) signed ∙ gap-below (firstAbove (w .lower)) (w .upper)
 
--- after n draws: as many masses as a reading allows, each of them small, and a step that was taken
+-- after n draws: as many masses as a reading allows, each of them small, a step that was taken, and a number of masses rounded that fits
 pub record Known (n : ℕ) (m : Mark) (t : Threshold) (part : List ℕ) : Type 0 where
   pub few : liveBy m (t .walked) ≤ wide
   pub count-fits : countFits m (t .walked) ≡ true
   pub step-small : markStep m ≤ n
+  pub few-rounded : t .walked .rounded ≤ wide * n
   pub small : (j : ℕ) → j < liveBy m (t .walked) → getD part j 0 ≤ massLimit
 
+-- of a settled one
+module _ (n u : ℕ) (t : Threshold) (part : List ℕ) where
+  settled-known : {m : Mark} → (liveBy m (t .walked) ≡ 0) × (countFits m (t .walked) ≡ true) × (markStep m ≡ u)
+      → (roundedFits n (t .walked) && within 1 n u) ≡ true → Known n m t part
+  unfolding roundedFits
+  settled-known is h =
+      let both = and-true (roundedFits n (t .walked)) _ h in
+      record {
+        few = omega (arith, is .0);
+        count-fits = is .1;
+        step-small = omega (arith, is .2, within-reads 1 n u .0 (both .1) .1);
+        few-rounded = le?-sound (t .walked .rounded) (wide * n) (both .0);
+        small = λ j l. absurd (omega (arith, is .0));
+      }
+
 pub known : (e n S : ℕ) (m : Mark) (t : Threshold) (part : List ℕ) → recordSound e n S m t part ≡ true → Known n m t part
-unfolding isSound rowOf
+unfolding roundedFits wordsSound rowOf
 known e n S Open t part h =
-    let a1 = and-true (boundariesSound e n S (t .walked)) _ h in
-    let b = boundaries-say e n S (t .walked) (a1 .0) in
+    let s = open-sound e n S t part h in
+    let b = boundaries-say e n S (t .walked) (s .1 .0) in
     let f : ℕ = firstAbove (t .walked .lower) in
     let g = gap-live (t .walked) (b .signed) in
     record {
       few = omega (arith, g, b .fits);
       count-fits = within-reads 1 wide (countsBetween (t .walked .lower) (t .walked .upper)) .1 (omega (arith, g, b .order), omega (arith, g, b .fits));
       step-small = omega arith;
+      few-rounded = le?-sound (t .walked .rounded) (wide * n) (s .0);
       small = λ j l.
-          let small = all-getD massLimit (take (t .walked .upper - f) part) (and-true (allUpTo massLimit (take (t .walked .upper - f) part)) _ (a1 .1) .0) j in
+          let small = all-getD massLimit (take (t .walked .upper - f) part) (and-true (allUpTo massLimit (take (t .walked .upper - f) part)) _ (s .1 .1) .0) j in
           rw (getD-take (t .walked .upper - f) part j 0 (omega (arith, g))) at small;
     }
-known e n S (Above u) t part h =
-    record { few = omega arith; count-fits = refl; step-small = within-reads 1 n u .0 h .1; small = λ j l. absurd (omega arith) }
-known e n S (AtMost u) t part h =
-    record { few = omega arith; count-fits = refl; step-small = within-reads 1 n u .0 h .1; small = λ j l. absurd (omega arith) }
+known e n S (Above u) t part h = settled-known n u t part (refl, refl, refl) h
+known e n S (AtMost u) t part h = settled-known n u t part (refl, refl, refl) h
 
 -- ---- a test
 

@@ -11,7 +11,7 @@ use lib.Seq.{length-take-le}
 use Rattle.walk.specs.Numbers.{le?, sum, allUpTo}
 use Rattle.walk.specs.Units.{M, wide, massLimit}
 use Rattle.walk.specs.Record.{firstAbove, rowOf}
-use Rattle.walk.specs.Soundness.{boundariesSound, isSound}
+use Rattle.walk.specs.Soundness.{roundedFits, wordsSound}
 use Rattle.walk.specs.declared.Walked.{Walked}
 use Rattle.walk.proofs.SoundnessLaws.{boundaries-say}
 use Rattle.walk.proofs.Tests.{and-true, le?-complete, le?-fails}
@@ -23,6 +23,7 @@ use mir.Syntax.{w32}
 use mir.Val.{toZ, ofZ}
 use mir.ValLaws.{toZ-ofZ, toZ-fits}
 use Rattle.walk.specs.declared.Mark.{Mark}
+use Rattle.walk.specs.declared.Mark.the-variants.{Open}
 use Rattle.bucket_test.specs.declared.Threshold.{Threshold}
 use Rattle.little.specs.Little.{field, column}
 use Rattle.little.specs.Little.{filled}
@@ -31,10 +32,10 @@ use Rattle.plan.specs.declared.Plan.{Plan}
 use Rattle.bucket_test.specs.declared.State.{State}
 use Rattle.plan.specs.Plan.{countLimit, spendingOf, planRefusal}
 use Rattle.bucket_test.specs.Words.{wordsFit}
-use Rattle.bucket_test.specs.Turn.{recordAt, recordSound, recordSoundAt}
+use Rattle.bucket_test.specs.Turn.{recordAt, numbersSound, recordSound, recordSoundAt}
 use Rattle.bucket_test.specs.Draw.{stateSound, noState}
 use Rattle.saved_test.specs.declared.Loaded.{Loaded}
-use Rattle.saved_test.specs.Form.{drawsField, onesField, massSize, recordOffset, formSize, countsBetween, liveCount, massesTo}
+use Rattle.saved_test.specs.Form.{headerSize, recordSize, drawsField, onesField, massSize, recordOffset, formSize, countsBetween, liveCount, massesTo}
 use Rattle.saved_test.specs.Inner.{RecordsAndMasses}
 use Rattle.saved_test.specs.Reading.{markOf, recordFrom, recordIn, recordFits, massOffset, partIn, massesIn, headerFits, formFits, stateIn, wordsIn, readRefusal, loaded, wordsAfter}
 use Rattle.saved_test.proofs.Judged.{gap-live}
@@ -43,14 +44,15 @@ use Rattle.saved_test.proofs.Refusals.{record-says, form-says}
 use Rattle.saved_test.proofs.BytesBack.{few-fit, masses-within}
 
 -- a record from its fields
-pub record-made : (bytes : List ℕ) (at code step bits upper over under : ℕ) (m : Mark) (z : ℤ)
+pub record-made : (bytes : List ℕ) (at code step bits upper over under rounded : ℕ) (m : Mark) (z : ℤ)
     → code ≡ field 4 at bytes → step ≡ field 4 (at + 4) bytes → bits ≡ field 4 (at + 8) bytes → bits < 256 ^ 4 → upper ≡ field 4 (at + 12) bytes
-    → over ≡ field 8 (at + 16) bytes → under ≡ field 8 (at + 24) bytes → m ≡ markOf code step → z ≡ toZ w32 bits
-    → _≡_ {A = Threshold} (record { mark = m; walked = record { lower = toZ w32 (ofZ w32 z); upper = upper; over = over; under = under } }) (recordFrom bytes at)
+    → over ≡ field 8 (at + 16) bytes → under ≡ field 8 (at + 24) bytes → rounded ≡ field 4 (at + 32) bytes → m ≡ markOf code step → z ≡ toZ w32 bits
+    → _≡_ {A = Threshold} (record { mark = m; walked = record { lower = toZ w32 (ofZ w32 z); upper = upper; over = over; under = under; rounded = rounded } })
+    (recordFrom bytes at)
 unfolding recordFrom
-record-made bytes at code step bits upper over under m z c s b small u o n mark low =
+record-made bytes at code step bits upper over under rounded m z c s b small u o n r mark low =
     let fits = toZ-fits w32 bits (record { fits = omega arith }) in
-    rw (mark, low, toZ-ofZ w32 (toZ w32 bits) fits, c, s, b, u, o, n)
+    rw (mark, low, toZ-ofZ w32 (toZ w32 bits) fits, c, s, b, u, o, n, r)
 
 -- a field that was read is compared with a number
 module _ {r v x : ℕ} (e : r ≡ v) where
@@ -67,7 +69,7 @@ as-read e x = ap (λ (y : ℕ). eqb y x) e
 -- ---- refusal 15, test by test
 
 module _ (p : Plan) (bytes : List ℕ) (count : ℕ) (counts : p .count ≡ count) where
-  pub fits-short : length bytes < 24 + 32 * count → false ≡ formFits p bytes
+  pub fits-short : length bytes < headerSize + recordSize * count → false ≡ formFits p bytes
   unfolding formFits formSize recordOffset
   fits-short h = rw (eq?-fails (length bytes) (formSize (p .count) (massesIn p bytes)) (λ e. omega arith))
 
@@ -75,7 +77,7 @@ module _ (p : Plan) (bytes : List ℕ) (count : ℕ) (counts : p .count ≡ coun
     masses-are : masses ≡ massesIn p bytes
     masses-are = rw counts is
 
-    pub fits-size : ¬ (length bytes ≡ 24 + 32 * count + 8 * masses) → false ≡ formFits p bytes
+    pub fits-size : ¬ (length bytes ≡ headerSize + recordSize * count + massSize * masses) → false ≡ formFits p bytes
     unfolding formFits formSize recordOffset
     fits-size n = rw (eq?-fails (length bytes) (formSize (p .count) (massesIn p bytes)) (λ e. n (omega (arith, masses-are))))
 
@@ -83,17 +85,17 @@ module _ (p : Plan) (bytes : List ℕ) (count : ℕ) (counts : p .count ≡ coun
     header =
         eq? (field 2 0 bytes) count
         && (eq? (field 2 2 bytes) masses
-        && (eq? (field 2 4 bytes) 24
-        && (eq? (field 2 6 bytes) (24 + 32 * count)
-        && (eq? (field 4 8 bytes) (24 + 32 * count + 8 * masses)
-        && (eq? (field 2 20 bytes) 32
-        && eq? (field 2 22 bytes) 8)))))
+        && (eq? (field 2 4 bytes) headerSize
+        && (eq? (field 2 6 bytes) (headerSize + recordSize * count)
+        && (eq? (field 4 8 bytes) (headerSize + recordSize * count + massSize * masses)
+        && (eq? (field 2 20 bytes) recordSize
+        && eq? (field 2 22 bytes) massSize)))))
 
     header-is : header ≡ headerFits p bytes
     unfolding headerFits formSize recordOffset
     header-is = rw (← masses-are, counts)
 
-    module _ (size : length bytes ≡ 24 + 32 * count + 8 * masses) where
+    module _ (size : length bytes ≡ headerSize + recordSize * count + massSize * masses) where
       sized : eq? (length bytes) (formSize (p .count) (massesIn p bytes)) ≡ true
       unfolding formSize recordOffset
       sized = eq?-complete _ _ (omega (arith, masses-are))
@@ -122,7 +124,7 @@ pub offset-next : (bytes : List ℕ) (count i : ℕ) → massOffset bytes count 
 unfolding massOffset massesTo
 offset-next bytes count i = rw (add-one i) (omega arith)
 
-pub offset-first : (bytes : List ℕ) (count : ℕ) → 24 + 32 * count ≡ massOffset bytes count 0
+pub offset-first : (bytes : List ℕ) (count : ℕ) → headerSize + recordSize * count ≡ massOffset bytes count 0
 unfolding massOffset massesTo recordOffset
 offset-first bytes count = omega arith
 
@@ -145,7 +147,7 @@ part-made bytes count i n at q e f h = h ∙ rw (e, f)
 
 -- what a form that fits asks of the functions that read it
 module _ (p : Plan) (bytes : List ℕ) (form : formFits p bytes ≡ true) where
-  pub form-long : 24 + 32 * p .count ≤ length bytes
+  pub form-long : headerSize + recordSize * p .count ≤ length bytes
   unfolding formSize recordOffset
   form-long = omega (arith, form-says p bytes .0 form .sized)
 
@@ -183,18 +185,18 @@ form-judged p bytes m =
 
 -- ---- refusal 11, part by part
 
--- an open record by its boundaries, then by its masses
-module _ (e n s : ℕ) (w : Walked) where
-  pub apart-unsound : boundariesSound e n s w ≡ false → (words : List ℕ) → false ≡ isSound e n s w words
-  unfolding isSound
-  apart-unsound f words = rw f
+-- an open record whose numbers pass, by its masses
+module _ (e n s : ℕ) (t : Threshold) where
+  abbrev w : Walked
+  w = t .walked
 
-  pub masses-decide : boundariesSound e n s w ≡ true → (count : ℕ) → count ≡ countsBetween (w .lower) (w .upper) → (f : ℕ → ℕ) (table : List ℕ) (r : Bool)
+  pub masses-decide : numbersSound e n s Open t ≡ true → (count : ℕ) → count ≡ countsBetween (w .lower) (w .upper) → (f : ℕ → ℕ) (table : List ℕ) (r : Bool)
       → r ≡ (allUpTo massLimit (take count (filled count f table)) && le? M (sum (take count (filled count f table)) + w .over + w .under))
-      → r ≡ isSound e n s w (filled (countsBetween (w .lower) (w .upper)) f table)
-  unfolding isSound rowOf
+      → r ≡ recordSound e n s Open t (filled (countsBetween (w .lower) (w .upper)) f table)
+  unfolding wordsSound rowOf
   masses-decide passed count is f table r h =
-      let live : count ≡ w .upper - firstAbove (w .lower) = is ∙ gap-live w (boundaries-say e n s w passed .signed) in
+      let b = boundaries-say e n s w (and-true (roundedFits n w) _ passed .1) in
+      let live : count ≡ w .upper - firstAbove (w .lower) = is ∙ gap-live w (b .signed) in
       rw (passed, ← is, ← live) h
 
 -- one threshold, with n masses from an offset on

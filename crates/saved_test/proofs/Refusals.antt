@@ -21,7 +21,7 @@ use Rattle.little.specs.Little.{field}
 use Rattle.saved_test.specs.Form.{headerSize, countField, massesField, recordOffsetField, massOffsetField, sizeField, recordSizeField, massSizeField}
 use Rattle.saved_test.specs.Form.{recordSize, massSize, recordOffset, formSize, countsBetween}
 use Rattle.saved_test.specs.Reading.{markOf, countFits, recordFrom, recordIn, recordFits, stateIn, wordsIn, massesIn, headerFits, formFits, readRefusal}
-use Rattle.saved_test.specs.Refusals.{codeIn, stepIn, FittingRecord, FormFitsTheorem, ReadRefusalTheorem}
+use Rattle.saved_test.specs.Refusals.{codeIn, stepIn, FittingRecord, FormFitsTheorem, OlderTheorem, ReadRefusalTheorem}
 
 -- ---- refusal 15 in words
 
@@ -64,6 +64,13 @@ form-says p bytes =
           },
       λ f. s .1 (f .sized, ((f .count, (f .masses, (f .record-offset, (f .mass-offset, (f .size, (f .record-size, f .mass-size)))))), f .records)),
     )
+
+pub older : OlderTheorem
+older p bytes h = go (formFits p bytes) refl
+  where
+    go : (b : Bool) → formFits p bytes ≡ b → b ≡ false
+    go true e = absurd (omega (arith, h, form-says p bytes .0 e .record-size))
+    go false e = refl
 
 -- ---- the refusals in their order
 

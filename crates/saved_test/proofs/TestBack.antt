@@ -6,7 +6,7 @@ use Prim.Native.Nat.{ℕ, _*_, _^_, _≤_, _<_}
 use native.Mathlib.Omega.{arith}
 use lib.ListN.{length, take, getD, replicate, length-replicate}
 use lib.Seq.{length-take-le, getD-take, ext-getD}
-use Rattle.walk.specs.Units.{wide, massLimit}
+use Rattle.walk.specs.Units.{wide, massLimit, horizonLimit}
 use Rattle.walk.specs.declared.Mark.{Mark}
 use Rattle.walk.specs.declared.Mark.the-variants.{Open, Above, AtMost}
 use Rattle.plan.specs.Places.{eq?}
@@ -30,7 +30,7 @@ use Rattle.saved_test.specs.Reading.{markKnown, recordIn, recordFits, ma
 use Rattle.saved_test.specs.RoundTrip.{Savable, ReadBack, TestBack}
 use Rattle.saved_test.proofs.Sizes.{form-length}
 use Rattle.saved_test.proofs.Fields.{record-from, code-is, step-is, in-record, in-mass, in-count, in-masses-count, in-first, in-second, in-size, in-n, in-ones, in-record-size, in-mass-size}
-use Rattle.saved_test.proofs.Judged.{Known, known-at, Small, small, save-says, masses-cong}
+use Rattle.saved_test.proofs.Judged.{Known, in-time, known-at, Small, small, save-says, masses-cong}
 use Rattle.saved_test.proofs.HeldLaws.{record-held, part-held, words-held}
 use Rattle.saved_test.proofs.AlikeLaws.{sound-same}
 
@@ -70,15 +70,19 @@ module _ (p : Plan) (s : State) (words : List ℕ) (savable : Savable p s words)
     early : markStep (recordAt s i .mark) < 256 ^ 4
     early = omega (arith, fits .n, knows .step-small)
 
+    few-rounded : recordAt s i .walked .rounded < 256 ^ 4
+    unfolding wide horizonLimit
+    few-rounded = omega (arith, knows .few-rounded, in-time p s words (judged .1 .1), ok .horizon-range .1)
+
     pub record-back : recordIn bytes i ≡ recordAt s i
-    record-back = record-from (recordAt s i) (savable .typed i l) early bytes (recordOffset i) (in-record p s words i l)
+    record-back = record-from (recordAt s i) (savable .typed i l) early few-rounded bytes (recordOffset i) (in-record p s words i l)
 
     record-fits : recordFits bytes i ≡ true
     unfolding recordFits
     record-fits =
         rw (
-          code-is (recordAt s i) (savable .typed i l) early bytes (recordOffset i) (in-record p s words i l),
-          step-is (recordAt s i) (savable .typed i l) early bytes (recordOffset i) (in-record p s words i l),
+          code-is (recordAt s i) (savable .typed i l) early few-rounded bytes (recordOffset i) (in-record p s words i l),
+          step-is (recordAt s i) (savable .typed i l) early few-rounded bytes (recordOffset i) (in-record p s words i l),
           known-mark (recordAt s i .mark),
           record-back,
         ) (knows .count-fits)

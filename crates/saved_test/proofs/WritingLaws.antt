@@ -35,42 +35,45 @@ use Rattle.saved_test.proofs.BytesBack.{masses-within}
 -- ---- a record, by its numbers
 
 module _ (t : Threshold) (at code step bits : ℕ) (c : code ≡ markCode (t .mark)) (s : step ≡ markStep (t .mark)) (b : bits ≡ ofZ w32 (t .walked .lower)) where
-  pub record-put : (b₀ b₁ b₂ b₃ b₄ : List ℕ) → b₁ ≡ putAt at (toLE 4 code ++ toLE 4 step) b₀
+  pub record-put : (b₀ b₁ b₂ b₃ b₄ b₅ : List ℕ) → b₁ ≡ putAt at (toLE 4 code ++ toLE 4 step) b₀
       → b₂ ≡ putAt (at + 8) (toLE 4 bits ++ toLE 4 (t .walked .upper)) b₁
       → b₃ ≡ putAt (at + 16) (toLE 8 (t .walked .over)) b₂
       → b₄ ≡ putAt (at + 24) (toLE 8 (t .walked .under)) b₃
-      → at ≤ length b₀ → b₄ ≡ putAt at (recordBytes t) b₀
+      → b₅ ≡ putAt (at + 32) (toLE 4 (t .walked .rounded)) b₄
+      → at ≤ length b₀ → b₅ ≡ putAt at (recordBytes t) b₀
   unfolding recordBytes
-  record-put b₀ b₁ b₂ b₃ b₄ e f g k h =
+  record-put b₀ b₁ b₂ b₃ b₄ b₅ e f g k l h =
       let one = toLE 4 code ++ toLE 4 step in
       let two = toLE 4 bits ++ toLE 4 (t .walked .upper) in
       let three = toLE 8 (t .walked .over) in
+      let four = toLE 8 (t .walked .under) in
       let f2 = then at one two b₀ b₁ b₂ (at + 8) e f h (simp (length-append, to-length)) in
       let f3 = then at (one ++ two) three b₀ b₂ b₃ (at + 16) f2 g h (simp (length-append, to-length)) in
-      let whole : b₄ ≡ putAt at (((one ++ two) ++ three) ++ toLE 8 (t .walked .under)) b₀ =
-      then at ((one ++ two) ++ three) (toLE 8 (t .walked .under)) b₀ b₃ b₄ (at + 24) f3 k h (simp (length-append, to-length)) in
+      let f4 = then at ((one ++ two) ++ three) four b₀ b₃ b₄ (at + 24) f3 k h (simp (length-append, to-length)) in
+      let whole : b₅ ≡ putAt at ((((one ++ two) ++ three) ++ four) ++ toLE 4 (t .walked .rounded)) b₀ =
+      then at (((one ++ two) ++ three) ++ four) (toLE 4 (t .walked .rounded)) b₀ b₄ b₅ (at + 32) f4 l h (simp (length-append, to-length)) in
       rw (← c, ← s, ← b) (simp append-assoc at whole)
 
 -- ---- the header, by its four pairs of numbers and the last
 
 module _ (count masses n ones : ℕ) where
   pub header-put : (b₀ b₁ b₂ b₃ b₄ b₅ : List ℕ) → b₁ ≡ putAt 0 (toLE 2 count ++ toLE 2 masses) b₀
-      → b₂ ≡ putAt 4 (toLE 2 24 ++ toLE 2 (24 + 32 * count)) b₁
-      → b₃ ≡ putAt 8 (toLE 4 (24 + 32 * count + 8 * masses) ++ toLE 4 n) b₂
-      → b₄ ≡ putAt 16 (toLE 4 ones ++ toLE 2 32) b₃
-      → b₅ ≡ putAt 22 (toLE 2 8) b₄
+      → b₂ ≡ putAt 4 (toLE 2 headerSize ++ toLE 2 (headerSize + recordSize * count)) b₁
+      → b₃ ≡ putAt 8 (toLE 4 (headerSize + recordSize * count + massSize * masses) ++ toLE 4 n) b₂
+      → b₄ ≡ putAt 16 (toLE 4 ones ++ toLE 2 recordSize) b₃
+      → b₅ ≡ putAt 22 (toLE 2 massSize) b₄
       → b₅ ≡ putAt 0 (header count masses n ones) b₀
   unfolding header formSize recordOffset
   header-put b₀ b₁ b₂ b₃ b₄ b₅ e1 e2 e3 e4 e5 =
       let one = toLE 2 count ++ toLE 2 masses in
-      let two = toLE 2 24 ++ toLE 2 (24 + 32 * count) in
-      let three = toLE 4 (24 + 32 * count + 8 * masses) ++ toLE 4 n in
-      let four = toLE 4 ones ++ toLE 2 32 in
+      let two = toLE 2 headerSize ++ toLE 2 (headerSize + recordSize * count) in
+      let three = toLE 4 (headerSize + recordSize * count + massSize * masses) ++ toLE 4 n in
+      let four = toLE 4 ones ++ toLE 2 recordSize in
       let f2 = then 0 one two b₀ b₁ b₂ 4 e1 e2 (omega arith) (simp (length-append, to-length)) in
       let f3 = then 0 (one ++ two) three b₀ b₂ b₃ 8 f2 e3 (omega arith) (simp (length-append, to-length)) in
       let f4 = then 0 ((one ++ two) ++ three) four b₀ b₃ b₄ 16 f3 e4 (omega arith) (simp (length-append, to-length)) in
-      let whole : b₅ ≡ putAt 0 ((((one ++ two) ++ three) ++ four) ++ toLE 2 8) b₀ =
-      then 0 (((one ++ two) ++ three) ++ four) (toLE 2 8) b₀ b₄ b₅ 22 f4 e5 (omega arith) (simp (length-append, to-length)) in
+      let whole : b₅ ≡ putAt 0 ((((one ++ two) ++ three) ++ four) ++ toLE 2 massSize) b₀ =
+      then 0 (((one ++ two) ++ three) ++ four) (toLE 2 massSize) b₀ b₄ b₅ 22 f4 e5 (omega arith) (simp (length-append, to-length)) in
       simp append-assoc at whole
 
 -- ---- one entry more, where entries differ in length

@@ -51,7 +51,7 @@ massSizeField = 22
 
 -- a record, and the offsets of its fields behind the mark
 abbrev pub recordSize : ℕ
-recordSize = 32
+recordSize = 36
 
 abbrev pub stepField : ℕ
 stepField = 4
@@ -68,6 +68,9 @@ overField = 16
 abbrev pub underField : ℕ
 underField = 24
 
+abbrev pub roundedField : ℕ
+roundedField = 32
+
 abbrev pub massSize : ℕ
 massSize = 8
 
@@ -79,7 +82,7 @@ unfoldable pub formSize : ℕ → ℕ → ℕ
 formSize count masses = recordOffset count + massSize * masses
 
 abbrev pub formLimit : ℕ
-formLimit = 61864
+formLimit = 61904
 
 -- ---- how many masses there are
 
@@ -115,7 +118,8 @@ markStep Open = 0
 markStep (Above t) = t
 markStep (AtMost t) = t
 
--- 4 bytes mark, 4 bytes step, 4 bytes lower boundary in two's complement, 4 bytes upper, 8 bytes upper spent mass, 8 bytes lower
+-- 4 bytes mark, 4 bytes step, 4 bytes lower boundary in two's complement, 4 bytes upper, 8 bytes upper spent mass, 8 bytes lower, 4 bytes number
+-- of masses rounded
 unfoldable pub recordBytes : Threshold → List ℕ
 recordBytes t =
     toLE 4 (markCode (t .mark))
@@ -123,7 +127,8 @@ recordBytes t =
     ++ (toLE 4 (ofZ w32 (t .walked .lower))
     ++ (toLE 4 (t .walked .upper)
     ++ (toLE 8 (t .walked .over)
-    ++ toLE 8 (t .walked .under)))))
+    ++ (toLE 8 (t .walked .under)
+    ++ toLE 4 (t .walked .rounded))))))
 
 -- the first masses of a part, 8 bytes each
 unfoldable pub massBytes : ℕ → List ℕ → List ℕ

@@ -19,7 +19,7 @@ use Rattle.bucket_test.specs.declared.Threshold.{Threshold}
 use Rattle.bucket_test.specs.declared.State.{State}
 use Rattle.little.specs.Little.{field, column, filled}
 use Rattle.saved_test.specs.Form.{headerSize, countField, massesField, recordOffsetField, massOffsetField, sizeField, drawsField, onesField}
-use Rattle.saved_test.specs.Form.{recordSizeField, massSizeField, recordSize, stepField, lowerField, upperField, overField, underField, massSize}
+use Rattle.saved_test.specs.Form.{recordSizeField, massSizeField, recordSize, stepField, lowerField, upperField, overField, underField, roundedField, massSize}
 use Rattle.saved_test.specs.Form.{recordOffset, formSize, countsBetween, liveCount, massesTo}
 use Rattle.saved_test.specs.declared.Loaded.{Loaded}
 
@@ -41,6 +41,7 @@ module _ (bytes : List ℕ) where
       upper = field 4 (at + upperField) bytes;
       over = field 8 (at + overField) bytes;
       under = field 8 (at + underField) bytes;
+      rounded = field 4 (at + roundedField) bytes;
     };
   }
 

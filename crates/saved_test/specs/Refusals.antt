@@ -47,6 +47,13 @@ pub record Fitting (p : Plan) (bytes : List ℕ) : Type 0 where
 abbrev pub FormFitsTheorem : Type 0
 FormFitsTheorem = (p : Plan) (bytes : List ℕ) → (formFits p bytes ≡ true) ↔ Fitting p bytes
 
+-- the layout before, without a number of masses rounded, had records of 32 bytes: none of its forms fits
+abbrev pub olderRecordSize : ℕ
+olderRecordSize = 32
+
+abbrev pub OlderTheorem : Type 0
+OlderTheorem = (p : Plan) (bytes : List ℕ) → field 2 recordSizeField bytes ≡ olderRecordSize → formFits p bytes ≡ false
+
 -- ---- the refusals in their order: plan, 8, 15, 11
 
 pub record ReadRefused (p : Plan) (bytes words : List ℕ) : Type 0 where

@@ -20,7 +20,7 @@ use Rattle.saved_test.specs.Writing.{saveRefusal, saved, bytesAfter}
 use Rattle.saved_test.specs.Reading.{stateIn, wordsIn, readRefusal, loaded, wordsAfter}
 use Rattle.saved_test.specs.Alike.{Alike}
 
--- the numbers of a record are those of its types, i32, u32, u64 and u64, as of every record in code: 11 does not judge a settled one
+-- boundaries and spent masses are those of their types, i32, u32, u64 and u64, as of every record in code: 11 does not judge them of a settled one
 pub record Typed (w : Walked) : Type 0 where
   pub lower-fits : SFits w32 (w .lower)
   pub upper-fits : w .upper < 256 ^ 4

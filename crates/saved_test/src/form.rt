@@ -22,7 +22,7 @@ pub(crate) const RECORD_SIZE_FIELD: usize = 20;
 pub(crate) const MASS_SIZE_FIELD: usize = 22;
 
 // A record, and its fields behind the mark.
-pub const RECORD_SIZE: usize = 32;
+pub const RECORD_SIZE: usize = 36;
 
 pub(crate) const STEP_FIELD: usize = 4;
 
@@ -33,5 +33,7 @@ pub(crate) const UPPER_FIELD: usize = 12;
 pub(crate) const OVER_FIELD: usize = 16;
 
 pub(crate) const UNDER_FIELD: usize = 24;
+
+pub(crate) const ROUNDED_FIELD: usize = 32;
 
 pub const MASS_SIZE: usize = 8;

@@ -22,6 +22,7 @@ use crate::form::ONES_FIELD;
 use crate::form::OVER_FIELD;
 use crate::form::RECORD_OFFSET_FIELD;
 use crate::form::RECORD_SIZE;
+use crate::form::ROUNDED_FIELD;
 use crate::form::SIZE_FIELD;
 use crate::form::UNDER_FIELD;
 use crate::marks::code_of;
@@ -53,6 +54,7 @@ pub fn write_record(bytes: &mut [u8], at: usize, t: Threshold)
     write_two(bytes, at + LOWER_FIELD, 4, bits, 4, w.upper as u64);
     write_le(bytes, at + OVER_FIELD, 8, w.over);
     write_le(bytes, at + UNDER_FIELD, 8, w.under);
+    write_le(bytes, at + ROUNDED_FIELD, 4, w.rounded as u64);
 }
 
 // So many records behind the header.

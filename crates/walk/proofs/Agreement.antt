@@ -12,13 +12,13 @@ use lib.Seq.{getD-take, getD-drop, take-all}
 use Rattle.walk.specs.Numbers.{le?, lt?, only, sumTo, sum, Smallest, Largest}
 use Rattle.walk.specs.Units.{M, million, wide}
 use Rattle.walk.specs.Spending.{IsSpending}
-use Rattle.walk.specs.Mass.{massUp}
-use Rattle.walk.specs.Walk.{isLive, Walk, below, lower, previous, cellwise, newMass, massFrom, massBelow, FitsUpper, FitsLower, upperBoundary, firstLive, start, absorbed, stepWalk, walk, firstAt, upperAt, wide?, NoWideBefore}
-use Rattle.walk.specs.Row.{Row, upper, byCount, startRow, cellsBy, newMasses, kept, dropped, cut, stepRow, rows, Sound}
+use Rattle.walk.specs.Mass.{massUp, rounding}
+use Rattle.walk.specs.Walk.{isLive, Walk, below, lower, previous, cellwise, newMass, newRounding, massFrom, massBelow, FitsUpper, FitsLower, upperBoundary, firstLive, start, absorbed, stepWalk, walk, firstAt, upperAt, wide?, NoWideBefore}
+use Rattle.walk.specs.Row.{Row, upper, byCount, startRow, cellsBy, newMasses, roundings, kept, dropped, cut, stepRow, rows, Sound}
 use Rattle.walk.specs.Facts.{asWalk, Same, AgreementTheorem}
 use Rattle.walk.proofs.Tests.{test, Le?, le, gt, le?-complete, le?-fails, only-only, only-fails, only-holds, sum-cong, sum-le, sum-zero}
 use Rattle.walk.proofs.Lists.{sum-take-suc, sum-take-drop}
-use Rattle.walk.proofs.Rounding.{mass-none}
+use Rattle.walk.proofs.Rounding.{mass-none, rounding-none}
 use Rattle.walk.proofs.Cells.{cells-length, comes, cells-getD}
 use Rattle.walk.proofs.Cuts.{Keeps, Drops}
 use Rattle.walk.proofs.Searches.{smallest-only, largest-only, found-up, found-down}
@@ -207,7 +207,7 @@ start-mass (suc c) =
 
 pub start-same : Same start startRow
 unfolding start startRow
-start-same = record { first-same = refl; upper-same = refl; mass-same = start-mass; over-same = refl; under-same = refl }
+start-same = record { first-same = refl; upper-same = refl; mass-same = start-mass; over-same = refl; under-same = refl; rounded-same = refl }
 
 pub same-as-walk : (w : Walk) (r : Row) → Same w r → w ≡ asWalk r
 unfolding asWalk
@@ -217,6 +217,7 @@ same-as-walk w r s = λ i. record {
   mass = fun-ext (s .mass-same) i;
   over = s .over-same i;
   under = s .under-same i;
+  rounded = s .rounded-same i;
 }
 
 module _ (a : ℕ) (threshold : a ≤ million) (e : ℕ) (half : e + e < M) (n : ℕ) (r : Row) (s : Sound e r) (top : upper r ≤ suc n) where
@@ -265,6 +266,12 @@ module _ (a : ℕ) (threshold : a ≤ million) (e : ℕ) (half : e + e < M) (n :
   lower-found : firstLive (suc n) e g (r .under) ≡ r .first + d
   lower-found = largest-only (lower-exists (suc n) e g (r .under) (s .under-fits)) lower-is ∙ step-first a threshold e half r s
 
+  -- the roundings, by count
+  rounded-found : sumTo (suc (suc n)) (newRounding a (byCount (r .first) (r .masses))) ≡ roundings a (r .masses)
+  rounded-found =
+      sum-cong (suc (suc n)) _ _ (λ c l. cells-at (rounding a) (rounding-none a) (r .first) (r .masses) c)
+      ∙ at-total (suc n) (r .first) (cellsBy (rounding a) 0 (r .masses)) (omega (arith, cells-length (rounding a) 0 (r .masses)))
+
   pub step-same : Same (stepWalk a e (suc n) (asWalk r)) (stepRow a e r)
   unfolding stepWalk absorbed asWalk stepRow cut
   step-same =
@@ -275,6 +282,7 @@ module _ (a : ℕ) (threshold : a ≤ million) (e : ℕ) (half : e + e < M) (n :
         mass-same = λ c. rw (lower-found, upper-found, cells-at (massUp a) (mass-none a) (r .first) (r .masses) c, u) (cut-at (r .first) d (k - d) cells c);
         over-same = ap (λ (x : ℕ). r .over + x) (rw (upper-found, new-same) (at-over (suc n) (r .first) cells fits k (keeps-k .within)));
         under-same = ap (λ (x : ℕ). r .under + x) (rw (lower-found, new-same) (at-under (suc n) (r .first) cells fits d (drops-d .within)));
+        rounded-same = ap (λ (x : ℕ). r .rounded + x) rounded-found;
       }
 
 -- the theorem of this file

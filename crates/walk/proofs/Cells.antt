@@ -7,10 +7,10 @@ use native.Mathlib.Omega.{arith}
 use lib.ListN.{length, getD}
 use Rattle.walk.specs.Numbers.{sum, allUpTo}
 use Rattle.walk.specs.Units.{million}
-use Rattle.walk.specs.Mass.{reaching, massUp, rounded}
+use Rattle.walk.specs.Mass.{reaching, massUp, rounding}
 use Rattle.walk.specs.Row.{cellsBy, newMasses, roundings}
 use Rattle.walk.proofs.Lists.{all-cons, cons-all}
-use Rattle.walk.proofs.Rounding.{whole-threshold, mass-ge, mass-le, rounded-le, mass-small}
+use Rattle.walk.proofs.Rounding.{whole-threshold, mass-ge, mass-le, rounding-le, mass-small}
 
 pub cells-length : (cell : ℕ → ℕ → ℕ) (come : ℕ) (xs : List ℕ) → length (cellsBy cell come xs) ≡ suc (length xs)
 unfolding cellsBy
@@ -31,10 +31,10 @@ cells-getD cell z come (x ∷ xs) zero = refl
 cells-getD cell z come (x ∷ xs) (suc zero) = cells-getD cell z x xs zero
 cells-getD cell z come (x ∷ xs) (suc (suc i)) = cells-getD cell z x xs (suc i)
 
-pub roundings-le : (a come : ℕ) (xs : List ℕ) → sum (cellsBy (rounded a) come xs) ≤ suc (length xs)
+pub roundings-le : (a come : ℕ) (xs : List ℕ) → sum (cellsBy (rounding a) come xs) ≤ suc (length xs)
 unfolding cellsBy
-roundings-le a come [] = omega (arith, rounded-le a 0 come)
-roundings-le a come (x ∷ xs) = omega (arith, rounded-le a x come, roundings-le a x xs)
+roundings-le a come [] = omega (arith, rounding-le a 0 come)
+roundings-le a come (x ∷ xs) = omega (arith, rounding-le a x come, roundings-le a x xs)
 
 module _ (a : ℕ) (threshold : a ≤ million) where
   sum-ge : (come : ℕ) (xs : List ℕ) → sum xs * million + come * a ≤ sum (cellsBy (massUp a) come xs) * million
@@ -43,7 +43,7 @@ module _ (a : ℕ) (threshold : a ≤ million) where
   sum-ge come (x ∷ xs) = omega (arith, mass-ge a x come, whole-threshold x a threshold, sum-ge x xs)
 
   sum-le : (come : ℕ) (xs : List ℕ)
-      → sum (cellsBy (massUp a) come xs) * million ≤ sum xs * million + come * a + sum (cellsBy (rounded a) come xs) * million
+      → sum (cellsBy (massUp a) come xs) * million ≤ sum xs * million + come * a + sum (cellsBy (rounding a) come xs) * million
   unfolding cellsBy reaching
   sum-le come [] = omega (arith, mass-le a 0 come)
   sum-le come (x ∷ xs) = omega (arith, mass-le a x come, whole-threshold x a threshold, sum-le x xs)

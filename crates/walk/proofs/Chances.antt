@@ -8,11 +8,11 @@ use native.Mathlib.Omega.{arith}
 use borrow.Author.Tests.{not-true}
 use lib.ListN.{length}
 use Rattle.walk.specs.Numbers.{le?, lt?, only, sumTo, sum}
-use Rattle.walk.specs.Units.{M, million}
+use Rattle.walk.specs.Units.{M, million, wide}
 use Rattle.walk.specs.Spending.{IsSpending}
 use Rattle.walk.specs.Mass.{reaching}
 use Rattle.walk.specs.Walk.{isLive, previous, newMass, massFrom, massBelow, start, absorbed, stepWalk, walk, firstAt, upperAt, NoWideBefore, noWideBefore?}
-use Rattle.walk.specs.Row.{total, rows, roundedBy}
+use Rattle.walk.specs.Row.{total, rows}
 use Rattle.walk.specs.Strings.{Draws, weight, Side, Upper, Lower, MeetsFirst, verdict, mark, isOn, markOpen, lastStep, chance}
 use Rattle.walk.specs.Chance.{Meets, meets?, meeting, spent, AllowedTheorem, RoundedChanceTheorem, ChanceTheorem}
 use Rattle.walk.proofs.Tests.{and-true, only-scale, sum-cong, sum-le, sum-mul}
@@ -144,10 +144,10 @@ module _ (a : ℕ) (threshold : a ≤ million) (E : ℕ → ℕ) (spends : IsSpe
   all-settled : (n : ℕ) → (sumTo (suc n) (live n) + settledOn Upper n + settledOn Lower n) * M ≡ million ^ n * M
   all-settled n = rw (whole a (million - a) F U n, sub-add-cancel threshold)
 
-  excess : (n : ℕ) → (total (rows a E n)) * million ^ n ≤ (M + roundedBy a E n) * million ^ n
-  excess n = mul-le-mul-right (million ^ n) (rows-total a threshold E spends n)
+  excess : (n : ℕ) → (total (rows a E n)) * million ^ n ≤ (M + walk a E n .rounded) * million ^ n
+  excess n = mul-le-mul-right (million ^ n) (omega (arith, rows-total a threshold E spends n, same a threshold E spends n .rounded-same))
 
-  spent-le : (side : Side) (n : ℕ) → spent side (walk a E n) * million ^ n ≤ settledOn side n * M + roundedBy a E n * million ^ n
+  spent-le : (side : Side) (n : ℕ) → spent side (walk a E n) * million ^ n ≤ settledOn side n * M + walk a E n .rounded * million ^ n
   spent-le Upper n = omega (arith, all-settled n, all-ge n, spent-ge Lower n, excess n, ap (λ (x : ℕ). x * million ^ n) (walk-total n))
   spent-le Lower n = omega (arith, all-settled n, all-ge n, spent-ge Upper n, excess n, ap (λ (x : ℕ). x * million ^ n) (walk-total n))
 
@@ -208,5 +208,6 @@ chances-by-rounding a threshold E spends side n none = record {
 pub chances : ChanceTheorem
 chances a threshold E spends side n none =
     let b = chances-by-rounding a threshold E spends side n none in
-    let few = rounded-few a threshold E spends n (not-wide a threshold E spends n .0 none) in
+    let few : walk a E n .rounded ≤ wide * n =
+    omega (arith, same a threshold E spends n .rounded-same, rounded-few a threshold E spends n (not-wide a threshold E spends n .0 none)) in
     record { at-least = b .at-least; at-most = omega (arith, b .at-most, mul-le-mul-right (million ^ n) few) }

@@ -9,8 +9,8 @@ use native.Mathlib.Omega.{arith}
 use lib.ListN.{length, take, drop, set, getD, replicate, length-set, take-append-drop}
 use lib.Seq.{take-suc-set, append-snoc, drop-set-lt, drop-cons, take-all, set-split}
 use Rattle.walk.specs.Numbers.{sum, allUpTo}
-use Rattle.walk.specs.Mass.{massUp}
-use Rattle.walk.specs.Row.{cellsBy, newMasses, kept, dropped}
+use Rattle.walk.specs.Mass.{massUp, rounding}
+use Rattle.walk.specs.Row.{cellsBy, newMasses, roundings, kept, dropped}
 use Rattle.walk.proofs.Lists.{sum-take-suc, sum-take-drop, sum-drop-suc, sum-drop-falls, all-cons}
 use Rattle.walk.proofs.Cuts.{Keeps, keeps, Drops, drops}
 
@@ -63,6 +63,13 @@ spreadRest a n l prev i = take i l ++ cellsBy (massUp a) prev (take (n - i) (dro
 pub spread-begin : (a n : ℕ) (l : List ℕ) → spreadRest a n l 0 0 ≡ newMasses a (take n l) ++ drop (n + 1) l
 spread-begin a n l = rw sub-zero
 
+-- the roundings to come
+abbrev pub roundRest : ℕ → ℕ → List ℕ → ℕ → ℕ → ℕ
+roundRest a n l prev i = sum (cellsBy (rounding a) prev (take (n - i) (drop i l)))
+
+pub round-begin : (a n : ℕ) (l : List ℕ) → roundRest a n l 0 0 ≡ roundings a (take n l)
+round-begin a n l = rw sub-zero
+
 module _ (a n : ℕ) (l : List ℕ) (prev i m : ℕ) (within : n < length l) where
   pub spread-more : i < n → m ≡ massUp a (getD l i 0) prev → spreadRest a n (set l i m) (getD l i 0) (i + 1) ≡ spreadRest a n l prev i
   unfolding cellsBy
@@ -79,6 +86,20 @@ module _ (a n : ℕ) (l : List ℕ) (prev i m : ℕ) (within : n < length l) whe
       let e : n - i ≡ 0 = omega arith in
       let f : i ≡ n = omega arith in
       rw (q, set-split, e, f, append-snoc, add-one)
+
+  pub round-more : i < n → roundRest a n l prev i ≡ rounding a (getD l i 0) prev + roundRest a n (set l i m) (getD l i 0) (i + 1)
+  unfolding cellsBy
+  round-more h =
+      let b1 : i < length l = omega arith in
+      let b2 : i < suc i = omega arith in
+      let e : n - i ≡ suc (n - suc i) = omega arith in
+      rw (add-one i, e, drop-set-lt (suc i), drop-cons l i 0)
+
+  pub round-done : n ≤ i → roundRest a n l prev i ≡ rounding a 0 prev
+  unfolding cellsBy
+  round-done h =
+      let e : n - i ≡ 0 = omega arith in
+      rw (e, add-zero)
 
   -- the old masses that are left are small
   pub small-more : (b : ℕ) → i < n → allUpTo b (take (n - i) (drop i l)) ≡ true

@@ -13,12 +13,12 @@ use Rattle.walk.specs.Numbers.{sum}
 use Rattle.walk.specs.Units.{wide, horizonLimit}
 use Rattle.walk.specs.Mass.{massUp}
 use Rattle.walk.specs.Walk.{below}
-use Rattle.walk.specs.Row.{Row, upper, newMasses, kept, dropped, cut, stepRow}
+use Rattle.walk.specs.Row.{Row, upper, newMasses, roundings, kept, dropped, cut, stepRow}
 use Rattle.walk.specs.Record.{firstAbove, rowOf, recordOf, padded}
 use Rattle.walk.specs.Soundness.{Steppable}
 use Rattle.walk.specs.declared.Walked.{Walked}
 use Rattle.walk.specs.declared.row.Cut.{Cut}
-use Rattle.walk.proofs.Cells.{cells-length}
+use Rattle.walk.proofs.Cells.{cells-length, roundings-le}
 use Rattle.walk.proofs.Cuts.{keeps, drops, cut-order}
 use Rattle.walk.proofs.RowSteps.{keep, cells-full, apart, step-length, step-upper, step-sound, step-moves}
 use Rattle.walk.proofs.Boundaries.{above-below}
@@ -54,9 +54,9 @@ Trimmed e over under cs r l l1 =
 
 -- ---- step
 
-same-walked : {l l′ : ℤ} {u u′ x x′ y y′ : ℕ} → l ≡ l′ → u ≡ u′ → x ≡ x′ → y ≡ y′
-    → _≡_ {A = Walked} (record { lower = l; upper = u; over = x; under = y }) (record { lower = l′; upper = u′; over = x′; under = y′ })
-same-walked p q r t = λ i. record { lower = p i; upper = q i; over = r i; under = t i }
+same-walked : {l l′ : ℤ} {u u′ x x′ y y′ z z′ : ℕ} → l ≡ l′ → u ≡ u′ → x ≡ x′ → y ≡ y′ → z ≡ z′
+    → _≡_ {A = Walked} (record { lower = l; upper = u; over = x; under = y; rounded = z }) (record { lower = l′; upper = u′; over = x′; under = y′; rounded = z′ })
+same-walked p q r t v = λ i. record { lower = p i; upper = q i; over = r i; under = t i; rounded = v i }
 
 -- what `first_above` asks of a lower boundary, which code reads from its bits
 abbrev pub Counted : ℤ → Type 0
@@ -105,6 +105,12 @@ module _ {a e : ℕ} {w : Walked} {words : List ℕ} (s : Steppable a e w words)
         ∙ take-at (newMasses a (take (w .upper - f) words)) (drop (w .upper - f + 1) words) (w .upper - f + 1) n
         ∙ ap (λ (x : ℕ). newMasses a (take (w .upper - x) words)) f-is
 
+    -- at most 769 of them are rounded
+    pub few-rounded : roundings a (take (w .upper - f) words) ≤ wide
+    few-rounded =
+        let few = roundings-le a 0 (take (w .upper - f) words) in
+        omega (arith, few, length-take-le (w .upper - f) words (omega (arith, f-is, s .room)), f-is, s .narrow, order)
+
     -- what `trim` requires of them
     pub more : e + e < sum (take (w .upper - f + 1) p1) + w .over + w .under
     unfolding rowOf
@@ -135,9 +141,10 @@ module _ {a e : ℕ} {w : Walked} {words : List ℕ} (s : Steppable a e w words)
           (sym (take-append-drop (w .upper - f + 1) p1) ∙ ap (λ (x : List ℕ). x ++ rest) front) (t .4)
           ∙ rw (t .0, t .1)
 
-      module _ (low : ℤ) (q : low ≡ below (firstAbove (toZ w32 (ofZ w32 (w .lower))) + c .lo)) where
+      module _ (low : ℤ) (q : low ≡ below (firstAbove (toZ w32 (ofZ w32 (w .lower))) + c .lo))
+          (count : ℕ) (counts : count ≡ roundings a (take (w .upper - f) words)) where
         abbrev walked : Walked
-        walked = record { lower = toZ w32 (ofZ w32 low); upper = f + c .hi; over = c .over; under = c .under }
+        walked = record { lower = toZ w32 (ofZ w32 low); upper = f + c .hi; over = c .over; under = c .under; rounded = w .rounded + count }
 
         record-is : walked ≡ recordOf next
         unfolding rowOf recordOf stepRow cut
@@ -149,6 +156,7 @@ module _ {a e : ℕ} {w : Walked} {words : List ℕ} (s : Steppable a e w words)
             (omega (arith, t .0, step-upper a (s .threshold) e (s .half) row (s .sound)))
             (t .2 ∙ ap (λ (k : ℕ). w .over + sum (drop k cells)) (t .0))
             (t .3 ∙ ap (λ (d : ℕ). w .under + sum (take d cells)) (t .1))
+            (ap (λ (x : ℕ). w .rounded + x) (counts ∙ ap (λ (x : ℕ). roundings a (take (w .upper - x) words)) f-is))
 
         pub stepped : (walked ≡ recordOf next) × (rowOf walked p2 ≡ next)
         stepped = (record-is, ap (λ (r : Walked). rowOf r p2) record-is ∙ row-front next p2 masses-front)

@@ -52,11 +52,11 @@ padded-word masses j = go masses (wide - length masses) j
 -- ---- a row that is a walk, by count: its record and its words as the rules name them
 
 module _ {w : Walk} {r : Row} (s : Same w r) where
-  -- the record holds the walk's boundaries and spent masses
+  -- the record holds the walk's boundaries, spent masses and number of masses rounded
   pub record-same : (recordOf r .lower ≡ lower w) × (recordOf r .upper ≡ w .upper)
-      × (recordOf r .over ≡ w .over) × (recordOf r .under ≡ w .under)
+      × (recordOf r .over ≡ w .over) × (recordOf r .under ≡ w .under) × (recordOf r .rounded ≡ w .rounded)
   unfolding recordOf lower
-  record-same = (rw (s .first-same), sym (s .upper-same), sym (s .over-same), sym (s .under-same))
+  record-same = (rw (s .first-same), sym (s .upper-same), sym (s .over-same), sym (s .under-same), sym (s .rounded-same))
 
   -- word j is the mass at count first + j
   pub word-same : (j : ℕ) → w .mass (w .first + j) ≡ getD (r .masses) j 0

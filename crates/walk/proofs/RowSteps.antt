@@ -10,7 +10,7 @@ use Rattle.walk.specs.Numbers.{sum, allUpTo}
 use Rattle.walk.specs.Units.{M, million, wide}
 use Rattle.walk.specs.Spending.{IsSpending}
 use Rattle.walk.specs.Mass.{massUp}
-use Rattle.walk.specs.Row.{Row, upper, total, startRow, newMasses, kept, dropped, cut, stepRow, rows, roundedBy, Sound, SoundAt}
+use Rattle.walk.specs.Row.{Row, upper, total, startRow, newMasses, roundings, kept, dropped, cut, stepRow, rows, Sound, SoundAt}
 use Rattle.walk.specs.Facts.{Moves}
 use Rattle.walk.proofs.Tests.{le?-complete}
 use Rattle.walk.proofs.Lists.{sum-three, all-take, all-drop}
@@ -68,6 +68,10 @@ module _ (a : ℕ) (threshold : a ≤ million) (e : ℕ) (half : e + e < M) (r :
   unfolding stepRow cut
   step-under = omega (arith, drop-low .fits)
 
+  step-counts : stepRow a e r .rounded ≡ r .rounded + roundings a (r .masses)
+  unfolding stepRow cut
+  step-counts = refl
+
   step-small : (b : ℕ) → allUpTo b (r .masses) ≡ true → allUpTo b (stepRow a e r .masses) ≡ true
   unfolding stepRow cut
   step-small b h = all-take b (drop d cells) (k - d) (all-drop b cells d (cells-small a threshold b (r .masses) h))
@@ -84,6 +88,7 @@ module _ (a : ℕ) (threshold : a ≤ million) (e : ℕ) (half : e + e < M) (r :
   step-moves = record {
     upper-slow = omega (arith, step-upper, keep .within, cells-length (massUp a) 0 (r .masses));
     lower-rises = omega (arith, step-first);
+    counts = step-counts;
     adds = omega (arith, step-total, mass-added a threshold (r .masses));
     few = roundings-le a 0 (r .masses);
     none-larger = step-small;
@@ -121,10 +126,10 @@ module _ (a : ℕ) (threshold : a ≤ million) (E : ℕ → ℕ) (spends : IsSpe
   rows-move n = next-moves n (rows a E n) (rows-sound n)
 
   -- live mass plus spent masses: at most one unit over M for each cell that was really rounded
-  pub rows-total : (n : ℕ) → total (rows a E n) ≤ M + roundedBy a E n
-  unfolding rows roundedBy startRow
+  pub rows-total : (n : ℕ) → total (rows a E n) ≤ M + rows a E n .rounded
+  unfolding rows startRow
   rows-total zero = omega arith
-  rows-total (suc n) = omega (arith, rows-total n, rows-move n .adds)
+  rows-total (suc n) = omega (arith, rows-total n, rows-move n .adds, rows-move n .counts)
 
   -- no mass of the walk is over the whole
   pub rows-small : (n : ℕ) → allUpTo M (rows a E n .masses) ≡ true
@@ -152,11 +157,11 @@ module _ (a : ℕ) (threshold : a ≤ million) (E : ℕ → ℕ) (spends : IsSpe
             let m = rows-move t in
             omega (arith, rows-narrow t (omega arith), m .upper-slow, m .lower-rises)
 
-    rounded-to : (m : ℕ) → m ≤ n → roundedBy a E m ≤ wide * m
-    unfolding roundedBy
+    rounded-to : (m : ℕ) → m ≤ n → rows a E m .rounded ≤ wide * m
+    unfolding rows startRow
     rounded-to zero l = omega arith
     rounded-to (suc m) l =
-        omega (arith, rounded-to m (omega arith), rows-move m .few, rows-narrow m l)
+        omega (arith, rounded-to m (omega arith), rows-move m .counts, rows-move m .few, rows-narrow m l)
 
-    pub rounded-few : roundedBy a E n ≤ wide * n
+    pub rounded-few : rows a E n .rounded ≤ wide * n
     rounded-few = rounded-to n (omega arith)

@@ -3,7 +3,7 @@ use mathlib.Core.Path.{_≡_, refl, sym, ap, _∙_}
 use mathlib.Core.Bool.{true, false}
 use mathlib.Core.Logic.{_↔_}
 use mathlib.Core.List.{List}
-use Prim.Native.Nat.{ℕ, suc, _+_, _-_, _≤_, _<_}
+use Prim.Native.Nat.{ℕ, suc, _+_, _*_, _-_, _≤_, _<_}
 use native.Mathlib.Omega.{arith}
 use borrow.Author.Tests.{leb-true, le-leb}
 use lib.IntN.{ℤ, pos, negsuc, _-ℤ_}
@@ -16,12 +16,12 @@ use Rattle.walk.specs.Spending.{IsSpending}
 use Rattle.walk.specs.Walk.{below, wide?}
 use Rattle.walk.specs.Row.{Row, upper, total, rows, SoundAt}
 use Rattle.walk.specs.Record.{firstAbove, rowOf, recordOf, isWide, padded}
-use Rattle.walk.specs.Soundness.{boundariesSound, isSound, Steppable}
+use Rattle.walk.specs.Soundness.{roundedFits, boundariesSound, wordsSound, Steppable}
 use Rattle.walk.specs.declared.Walked.{Walked}
 use Rattle.walk.proofs.Tests.{and-true, le?-sound, le?-complete}
 use Rattle.walk.proofs.Boundaries.{apart-below, wide-fails, apart-order, above-below, below-above, below-least, over-below}
 use Rattle.walk.proofs.Lists.{all-more}
-use Rattle.walk.proofs.RowSteps.{allowed-next, rows-sound, rows-small, rows-fit}
+use Rattle.walk.proofs.RowSteps.{allowed-next, rows-sound, rows-small, rows-fit, rounded-few}
 
 -- ---- a row and its record
 
@@ -33,7 +33,7 @@ padded-length masses h =
 -- a row's record, and words with its masses in front, give it back
 pub row-front : (r : Row) (words : List ℕ) → take (length (r .masses)) words ≡ r .masses → rowOf (recordOf r) words ≡ r
 unfolding rowOf recordOf
-row-front r words h = λ i. record { first = above-below (r .first) i; masses = masses-back i; over = r .over; under = r .under }
+row-front r words h = λ i. record { first = above-below (r .first) i; masses = masses-back i; over = r .over; under = r .under; rounded = r .rounded }
   where
     masses-back : take (upper r - firstAbove (below (r .first))) words ≡ r .masses
     masses-back = let n : upper r - firstAbove (below (r .first)) ≡ length (r .masses) = omega (arith, above-below (r .first)) in rw n h
@@ -106,18 +106,17 @@ module _ (e n s : ℕ) (w : Walked) where
         le?-complete (w .under) e (b .under-fits),
       )
 
--- ---- refusal 11
+-- ---- refusal 11 of an open threshold, but for its number of masses rounded
 
-module _ (e n s : ℕ) (w : Walked) (words : List ℕ) where
-  pub sound-between : isSound e n s w words ≡ true → Between e n s (firstAbove (w .lower)) w
-  unfolding isSound
-  sound-between h = boundaries-say e n s w (and-true (boundariesSound e n s w) _ h .0)
+abbrev pub IsSound : ℕ → ℕ → ℕ → Walked → List ℕ → Type 0
+IsSound e n s w words = (boundariesSound e n s w ≡ true) × (wordsSound w words ≡ true)
 
+module _ (e n s : ℕ) (w : Walked) where
   -- a record that is not wide has fewer than 769 live counts
-  pub few-live : isSound e n s w words ≡ true → isWide w ≡ false → w .upper - firstAbove (w .lower) < wide
+  pub few-live : boundariesSound e n s w ≡ true → isWide w ≡ false → w .upper - firstAbove (w .lower) < wide
   unfolding isWide
   few-live h thin =
-      let b = sound-between h in
+      let b = boundaries-say e n s w h in
       let f : ℕ = firstAbove (w .lower) in
       let apart = wide-fails (w .upper) f (omega (arith, b .order)) .0 (ap (wide? (w .upper)) (sym (b .signed)) ∙ thin) in
       omega (arith, b .fits, apart)
@@ -132,11 +131,11 @@ pub record Checked (E : ℕ → ℕ) (n : ℕ) (w : Walked) (words : List ℕ) :
 
 -- .. where there is a word for each live count
 module _ (E : ℕ → ℕ) (n s : ℕ) (w : Walked) (words : List ℕ) (held : w .upper - firstAbove (w .lower) ≤ length words) where
-  pub checked : isSound (E n) n s w words ≡ true → Checked E n w words
-  unfolding isSound rowOf wide
+  pub checked : IsSound (E n) n s w words → Checked E n w words
+  unfolding wordsSound rowOf wide
   checked h =
-      let a = and-true (allUpTo massLimit (rowOf w words .masses)) _ (and-true (boundariesSound (E n) n s w) _ h .1) in
-      let b = sound-between (E n) n s w words h in
+      let a = and-true (allUpTo massLimit (rowOf w words .masses)) _ (h .1) in
+      let b = boundaries-say (E n) n s w (h .0) in
       let l : length (take (w .upper - firstAbove (w .lower)) words) ≡ w .upper - firstAbove (w .lower) =
       length-take-le (w .upper - firstAbove (w .lower)) words held in
       record {
@@ -150,24 +149,25 @@ module _ (E : ℕ → ℕ) (n s : ℕ) (w : Walked) (words : List ℕ) (held : w
         };
       }
 
-  pub narrow : isSound (E n) n s w words ≡ true → isWide w ≡ false → length (rowOf w words .masses) < wide
+  pub narrow : IsSound (E n) n s w words → isWide w ≡ false → length (rowOf w words .masses) < wide
   unfolding rowOf
-  narrow h thin = omega (arith, checked h .upper-is, few-live (E n) n s w words h thin)
+  narrow h thin = omega (arith, checked h .upper-is, few-live (E n) n s w (h .0) thin)
 
 -- .. and a word more: what a step asks, of a record that is not wide
 module _ (E : ℕ → ℕ) (n s : ℕ) (w : Walked) (words : List ℕ) (room : w .upper - firstAbove (w .lower) < length words) where
-  pub steppable : (a : ℕ) → a ≤ million → IsSpending E → n ≤ horizonLimit → isWide w ≡ false → isSound (E n) n s w words ≡ true
-      → Steppable a (E (suc n)) w words
-  unfolding rowOf
-  steppable a threshold spends early thin h =
+  pub steppable : (a : ℕ) → a ≤ million → IsSpending E → n ≤ horizonLimit → isWide w ≡ false → roundedFits n w ≡ true
+      → IsSound (E n) n s w words → Steppable a (E (suc n)) w words
+  unfolding roundedFits rowOf wide
+  steppable a threshold spends early thin few h =
       let c = checked E n s w words (omega arith) h in
       record {
         threshold = threshold;
         half = spends .half (suc n);
         room = room;
         signed = c .signed;
-        narrow = omega (arith, few-live (E n) n s w words h thin);
+        narrow = omega (arith, few-live (E n) n s w (h .0) thin);
         early = omega (arith, c .upper-is, c .sound .top);
+        rounded-fits = omega (arith, le?-sound (w .rounded) _ few);
         small = c .small;
         sound = allowed-next a threshold E spends n (rowOf w words) (c .sound);
       }
@@ -175,15 +175,12 @@ module _ (E : ℕ → ℕ) (n s : ℕ) (w : Walked) (words : List ℕ) (room : w
 -- ---- refusal 11 refuses no sound row that fits its words
 
 pub row-passes : (E : ℕ → ℕ) (n s : ℕ) (r : Row) → SoundAt E n r → length (r .masses) ≤ wide → allUpTo massLimit (r .masses) ≡ true
-    → r .first ≤ s → s < upper r → isSound (E n) n s (recordOf r) (padded (r .masses)) ≡ true
-unfolding isSound recordOf wide
-row-passes E n s r sound fits small from to =
-    rw (row-back r)
-    (cc (
-      boundaries-hold (E n) n s (recordOf r) (r .first) between,
-      small,
-      le?-complete M (total r) (sound .sound .full),
-    ))
+    → r .first ≤ s → s < upper r → IsSound (E n) n s (recordOf r) (padded (r .masses))
+unfolding wordsSound recordOf wide
+row-passes E n s r sound fits small from to = (
+  boundaries-hold (E n) n s (recordOf r) (r .first) between,
+  rw (row-back r) (cc (small, le?-complete M (total r) (sound .sound .full))),
+)
   where
     between : Between (E n) n s (r .first) (recordOf r)
     between = record {
@@ -199,8 +196,14 @@ row-passes E n s r sound fits small from to =
 
 -- .. and so none of the walk, as long as no step before was wide
 pub walk-passes : (a : ℕ) → a ≤ million → (E : ℕ → ℕ) → IsSpending E → (n s : ℕ) → ((t : ℕ) → t < n → ¬ (length (rows a E t .masses) ≡ wide))
-    → rows a E n .first ≤ s → s < upper (rows a E n) → isSound (E n) n s (recordOf (rows a E n)) (padded (rows a E n .masses)) ≡ true
+    → rows a E n .first ≤ s → s < upper (rows a E n) → IsSound (E n) n s (recordOf (rows a E n)) (padded (rows a E n .masses))
 unfolding M massLimit
 walk-passes a threshold E spends n s none from to =
     row-passes E n s (rows a E n) (rows-sound a threshold E spends n) (rows-fit a threshold E spends n none)
     (all-more M massLimit (rows a E n .masses) (omega arith) (rows-small a threshold E spends n)) from to
+
+-- .. nor its number, after as many draws or more
+pub rounded-passes : (a : ℕ) → a ≤ million → (E : ℕ → ℕ) → IsSpending E → (t n : ℕ) → t ≤ n
+    → ((u : ℕ) → u < t → ¬ (length (rows a E u .masses) ≡ wide)) → roundedFits n (recordOf (rows a E t)) ≡ true
+unfolding roundedFits recordOf wide
+rounded-passes a threshold E spends t n l none = le?-complete _ _ (omega (arith, rounded-few a threshold E spends t none))

@@ -5,6 +5,7 @@ use Prim.Native.Nat.{ℕ, zero, suc, _*_, _≤_, _<_}
 use native.Mathlib.Nat.{zero-mul}
 use native.Mathlib.Omega.{arith}
 use lib.Dec.{T, leb, leb→le, nleb→lt}
+use mir.Val.{boolByte}
 use Rattle.walk.specs.Numbers.{le?, only, sumTo}
 
 -- which way a test goes, with what it says
@@ -23,6 +24,11 @@ test m n = go (leb m n) (leb→le m n) (nleb→lt m n)
 -- nothing is both true and false
 pub clash : {A : Type 0} → true ≡ false → A
 clash e = absurd (let z : _≡_ {A = ℕ} 0 1 = cc in omega arith)
+
+-- a test as a number
+pub byte-only : (b : Bool) → boolByte b ≡ only b 1
+byte-only true = refl
+byte-only false = refl
 
 pub le?-sound : (m n : ℕ) → le? m n ≡ true → m ≤ n
 le?-sound m n e = go (le? m n) (test m n) e

@@ -10,13 +10,14 @@ use lib.Signed.{_≤ℤ_, leZ-yes}
 use Rattle.walk.specs.Numbers.{le?, Smallest, Largest}
 use Rattle.walk.specs.Units.{M, million}
 use Rattle.walk.specs.Spending.{IsSpending}
-use Rattle.walk.specs.Walk.{below, lower, newMass, FitsUpper, FitsLower, absorbed, stepWalk, walk}
+use Rattle.walk.specs.Mass.{massUp, rounding}
+use Rattle.walk.specs.Walk.{below, lower, cellwise, newMass, FitsUpper, FitsLower, absorbed, stepWalk, walk}
 use Rattle.walk.specs.Row.{total, byCount, rows}
 use Rattle.walk.specs.Strings.{Upper, Lower}
 use Rattle.walk.specs.Facts.{asWalk, StepTheorem, massOf, WalkTheorem}
 use Rattle.walk.proofs.Tests.{only-le}
 use Rattle.walk.proofs.Lists.{all-getD}
-use Rattle.walk.proofs.Rounding.{mass-none}
+use Rattle.walk.proofs.Rounding.{mass-none, rounding-none}
 use Rattle.walk.proofs.Boundaries.{below-rises, apart-below}
 use Rattle.walk.proofs.RowSteps.{allowed-next, next-moves, next-sound, rows-sound, rows-move, rows-total, rows-small, rounded-few}
 use Rattle.walk.proofs.Agreement.{at-off, at-live, upper-exists, lower-exists, upper-is, lower-is, step-same, same-as-walk, same, not-wide}
@@ -57,12 +58,13 @@ mass-total a threshold E spends n =
     ap massOf (same-as-walk (walk a E n) (rows a E n) (same a threshold E spends n))
     ∙ ap (λ (x : ℕ). x + rows a E n .over + rows a E n .under) (at-live (rows a E n .first) (rows a E n .masses))
 
--- masses at the counts from f on and below u make new ones at the counts from f to u only
-cells-off : (a : ℕ) (g : ℕ → ℕ) (f u : ℕ) → ((c : ℕ) → (c < f) ⊎ (u ≤ c) → g c ≡ 0) → (c : ℕ) → (c < f) ⊎ (u < c) → newMass a g c ≡ 0
-cells-off a g f u off zero (inl h) = rw (off 0 (inl h)) (mass-none a)
-cells-off a g f u off zero (inr h) = absurd (omega arith)
-cells-off a g f u off (suc c) (inl h) = rw (off (suc c) (inl h), off c (inl (omega arith))) (mass-none a)
-cells-off a g f u off (suc c) (inr h) = rw (off (suc c) (inr (omega arith)), off c (inr (omega arith))) (mass-none a)
+-- masses at the counts from f on and below u make new numbers at the counts from f to u only
+cells-off : (cell : ℕ → ℕ → ℕ) → cell 0 0 ≡ 0 → (g : ℕ → ℕ) (f u : ℕ) → ((c : ℕ) → (c < f) ⊎ (u ≤ c) → g c ≡ 0)
+    → (c : ℕ) → (c < f) ⊎ (u < c) → cellwise cell g c ≡ 0
+cells-off cell none g f u off zero (inl h) = rw (off 0 (inl h)) none
+cells-off cell none g f u off zero (inr h) = absurd (omega arith)
+cells-off cell none g f u off (suc c) (inl h) = rw (off (suc c) (inl h), off c (inl (omega arith))) none
+cells-off cell none g f u off (suc c) (inr h) = rw (off (suc c) (inr (omega arith)), off c (inr (omega arith))) none
 
 pub walk-facts : WalkTheorem
 unfolding lower byCount asWalk
@@ -82,6 +84,8 @@ walk-facts a threshold E spends n =
       lower-rises = below-rises (walk a E n .first) (walk a E (suc n) .first) (omega (arith, s .first-same, s′ .first-same, m .lower-rises));
       allowed = λ side. spent-fits a threshold E spends side n;
       no-less = omega (arith, mass-total a threshold E spends n, r .sound .full);
+      adds = omega (arith, mass-total a threshold E spends n, rows-total a threshold E spends n, s .rounded-same);
+      few = λ none. omega (arith, s .rounded-same, rounded-few a threshold E spends n (not-wide a threshold E spends n .0 none));
       no-more = λ none. omega (
         arith,
         mass-total a threshold E spends n,
@@ -89,7 +93,8 @@ walk-facts a threshold E spends n =
         rounded-few a threshold E spends n (not-wide a threshold E spends n .0 none),
       );
       off = off;
-      new-off = cells-off a (walk a E n .mass) (walk a E n .first) (walk a E n .upper) off;
+      new-off = cells-off (massUp a) (mass-none a) (walk a E n .mass) (walk a E n .first) (walk a E n .upper) off;
+      none-rounded = cells-off (rounding a) (rounding-none a) (walk a E n .mass) (walk a E n .first) (walk a E n .upper) off;
       small = λ c. omega (
         arith,
         s .mass-same c,

@@ -5,7 +5,6 @@ use lib.ListN.{length}
 use Rattle.walk.specs.Units.{M, million, wide}
 use Rattle.walk.specs.Spending.{IsSpending}
 use Rattle.walk.specs.Walk.{Walk, walk, firstAt, upperAt, NoWideBefore, noWideBefore?}
-use Rattle.walk.specs.Row.{roundedBy}
 use Rattle.walk.specs.Strings.{Draws, Side, Upper, Lower, MeetsFirst, mark, isOn, lastStep, chance}
 
 module _ (a : ℕ) (E : ℕ → ℕ) where
@@ -39,11 +38,11 @@ AllowedTheorem =
     (a : ℕ) → a ≤ million → (E : ℕ → ℕ) → IsSpending E → (side : Side) (n : ℕ)
     → meeting a E side n * M ≤ E n * million ^ n
 
--- .. and within one unit of its spent mass for each cell really rounded, as long as the walk goes on: up to the first wide step ..
+-- .. and within one unit of its spent mass for each mass rounded, as long as the walk goes on: up to the first wide step ..
 abbrev pub RoundedChanceTheorem : Type 0
 RoundedChanceTheorem =
     (a : ℕ) → a ≤ million → (E : ℕ → ℕ) → IsSpending E → (side : Side) (n : ℕ) → NoWideBefore a E n
-    → Bounds n (meeting a E side n) (spent side (walk a E n)) (roundedBy a E n)
+    → Bounds n (meeting a E side n) (spent side (walk a E n)) (walk a E n .rounded)
 
 -- .. so within 769 units for each step
 abbrev pub ChanceTheorem : Type 0

@@ -9,14 +9,14 @@ use lib.Signed.{_≤ℤ_}
 use Rattle.walk.specs.Numbers.{le?, only, Smallest, Largest, sumTo, allUpTo}
 use Rattle.walk.specs.Units.{M, million, wide}
 use Rattle.walk.specs.Spending.{IsSpending}
-use Rattle.walk.specs.Walk.{Walk, lower, newMass, FitsUpper, FitsLower, stepWalk, walk, NoWideBefore}
+use Rattle.walk.specs.Walk.{Walk, lower, newMass, newRounding, FitsUpper, FitsLower, stepWalk, walk, NoWideBefore}
 use Rattle.walk.specs.Row.{Row, upper, total, byCount, roundings, stepRow, rows, Sound, SoundAt}
 use Rattle.walk.specs.Strings.{Side}
 use Rattle.walk.specs.Chance.{spent}
 
 -- a row, by count
 unfoldable pub asWalk : Row → Walk
-asWalk r = record { first = r .first; upper = upper r; mass = byCount (r .first) (r .masses); over = r .over; under = r .under }
+asWalk r = record { first = r .first; upper = upper r; mass = byCount (r .first) (r .masses); over = r .over; under = r .under; rounded = r .rounded }
 
 -- the two forms of a walk, by count and by row, are the same
 pub record Same (w : Walk) (r : Row) : Type 0 where
@@ -25,6 +25,7 @@ pub record Same (w : Walk) (r : Row) : Type 0 where
   pub mass-same : (c : ℕ) → w .mass c ≡ byCount (r .first) (r .masses) c
   pub over-same : w .over ≡ r .over
   pub under-same : w .under ≡ r .under
+  pub rounded-same : w .rounded ≡ r .rounded
 
 -- ---- one step, with e to spend
 
@@ -32,7 +33,8 @@ pub record Same (w : Walk) (r : Row) : Type 0 where
 pub record Moves (a : ℕ) (r s : Row) : Type 0 where
   pub upper-slow : upper s ≤ suc (upper r)
   pub lower-rises : r .first ≤ s .first
-  -- it adds at most one unit for each cell that was really rounded; there are as many cells as live counts, and one more
+  -- it counts the new masses that were rounded, and adds at most one unit for each; there are as many new masses as live counts, and one more
+  pub counts : s .rounded ≡ r .rounded + roundings a (r .masses)
   pub adds : total s ≤ total r + roundings a (r .masses)
   pub few : roundings a (r .masses) ≤ suc (length (r .masses))
   -- no cell exceeds the largest old mass
@@ -72,11 +74,15 @@ pub record WalkFacts (a : ℕ) (E : ℕ → ℕ) (n : ℕ) : Type 0 where
   pub lower-rises : lower (walk a E n) ≤ℤ lower (walk a E (suc n))
   pub allowed : (side : Side) → spent side (walk a E n) ≤ E n
   pub no-less : M ≤ massOf (walk a E n)
+  -- one unit at most comes in for each mass rounded; their number
+  pub adds : massOf (walk a E n) ≤ M + walk a E n .rounded
+  pub few : NoWideBefore a E n → walk a E n .rounded ≤ wide * n
   pub no-more : NoWideBefore a E n → massOf (walk a E n) ≤ M + wide * n
   -- a count at or beyond a boundary is not live and has no mass
   pub off : (c : ℕ) → (c < walk a E n .first) ⊎ (walk a E n .upper ≤ c) → walk a E n .mass c ≡ 0
-  -- a count that rules 3.3 do not name, before the first live one or past the upper boundary, gets no new mass
+  -- a count that rules 3.3 do not name, before the first live one or past the upper boundary, gets no new mass, and nothing is rounded there
   pub new-off : (c : ℕ) → (c < walk a E n .first) ⊎ (walk a E n .upper < c) → newMass a (walk a E n .mass) c ≡ 0
+  pub none-rounded : (c : ℕ) → (c < walk a E n .first) ⊎ (walk a E n .upper < c) → newRounding a (walk a E n .mass) c ≡ 0
   pub small : (c : ℕ) → walk a E n .mass c ≤ M
 
 -- the two forms agree at every step ..

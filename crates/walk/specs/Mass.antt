@@ -20,6 +20,6 @@ reaching a stay come = stay * (million - a) + come * a
 unfoldable pub massUp : ℕ → ℕ → ℕ → ℕ
 massUp a stay come = roundUp (reaching a stay come)
 
--- 1 where the new mass was really rounded, else 0
-unfoldable pub rounded : ℕ → ℕ → ℕ → ℕ
-rounded a stay come = rounds (reaching a stay come)
+-- 1 where the new mass was rounded, else 0
+unfoldable pub rounding : ℕ → ℕ → ℕ → ℕ
+rounding a stay come = rounds (reaching a stay come)

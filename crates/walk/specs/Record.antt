@@ -21,10 +21,11 @@ rowOf w words = record {
   masses = take (w .upper - firstAbove (w .lower)) words;
   over = w .over;
   under = w .under;
+  rounded = w .rounded;
 }
 
 unfoldable pub recordOf : Row → Walked
-recordOf r = record { lower = below (r .first); upper = upper r; over = r .over; under = r .under }
+recordOf r = record { lower = below (r .first); upper = upper r; over = r .over; under = r .under; rounded = r .rounded }
 
 -- the words of a row: words after the live counts are zero
 unfoldable pub padded : List ℕ → List ℕ

@@ -5,7 +5,7 @@ use Prim.Native.Nat.{ℕ, zero, suc, _+_, _-_, _≤_, _<_}
 use lib.ListN.{length, take, drop, getD}
 use Rattle.walk.specs.Numbers.{le?, only, choose, sum}
 use Rattle.walk.specs.Units.{M}
-use Rattle.walk.specs.Mass.{massUp, rounded}
+use Rattle.walk.specs.Mass.{massUp, rounding}
 
 pub record Row : Type 0 where
   pub first : ℕ
@@ -13,6 +13,8 @@ pub record Row : Type 0 where
   -- the upper and the lower spent mass
   pub over : ℕ
   pub under : ℕ
+  -- how many new masses were rounded so far
+  pub rounded : ℕ
 
 abbrev pub upper : Row → ℕ
 upper r = r .first + length (r .masses)
@@ -26,7 +28,7 @@ unfoldable pub byCount : ℕ → List ℕ → ℕ → ℕ
 byCount f masses c = only (le? f c) (getD masses (c - f) 0)
 
 unfoldable pub startRow : Row
-startRow = record { first = 0; masses = M ∷ []; over = 0; under = 0 }
+startRow = record { first = 0; masses = M ∷ []; over = 0; under = 0; rounded = 0 }
 
 -- a number for each count from the first live one to the upper boundary, made of the old masses there and at the count before, which
 -- is `come` for the first
@@ -34,12 +36,12 @@ unfoldable pub cellsBy : (ℕ → ℕ → ℕ) → ℕ → List ℕ → List ℕ
 cellsBy cell come [] = cell 0 come ∷ []
 cellsBy cell come (x ∷ xs) = cell x come ∷ cellsBy cell x xs
 
--- the new masses (rules 3.3); and how many of them were really rounded
+-- the new masses (rules 3.3); and how many of them were rounded
 abbrev pub newMasses : ℕ → List ℕ → List ℕ
 newMasses a xs = cellsBy (massUp a) 0 xs
 
 abbrev pub roundings : ℕ → List ℕ → ℕ
-roundings a xs = sum (cellsBy (rounded a) 0 xs)
+roundings a xs = sum (cellsBy (rounding a) 0 xs)
 
 -- how many cells lie under the upper boundary (rules 3.4): the fewest such that the others and the upper spent mass are at most e
 unfoldable pub kept : ℕ → ℕ → List ℕ → ℕ
@@ -51,28 +53,28 @@ unfoldable pub dropped : ℕ → ℕ → List ℕ → ℕ
 dropped e under [] = 0
 dropped e under (x ∷ xs) = let r = suc (dropped e (x + under) xs) in choose (le? (x + under) e) r 0
 
--- (rules 3.6) of the cells cs, the first d and those from place k on join the spent masses
-unfoldable pub cut : List ℕ → ℕ → ℕ → Row → Row
-cut cs d k r = record {
+-- (rules 3.6) of the cells cs, of which `more` were rounded, the first d and those from place k on join the spent masses
+unfoldable pub cut : List ℕ → ℕ → ℕ → ℕ → Row → Row
+cut cs more d k r = record {
   first = r .first + d;
   masses = take (k - d) (drop d cs);
   over = r .over + sum (drop k cs);
   under = r .under + sum (take d cs);
+  rounded = r .rounded + more;
 }
 
 -- one step, with e to spend
 unfoldable pub stepRow : ℕ → ℕ → Row → Row
-stepRow a e r = cut (newMasses a (r .masses)) (dropped e (r .under) (newMasses a (r .masses))) (kept e (r .over) (newMasses a (r .masses))) r
+stepRow a e r =
+    cut (newMasses a (r .masses)) (roundings a (r .masses))
+    (dropped e (r .under) (newMasses a (r .masses)))
+    (kept e (r .over) (newMasses a (r .masses)))
+    r
 
 -- the row after step n
 unfoldable pub rows : ℕ → (ℕ → ℕ) → ℕ → Row
 rows a E zero = startRow
 rows a E (suc n) = stepRow a (E (suc n)) (rows a E n)
-
--- the cells really rounded in the steps 1 to n
-unfoldable pub roundedBy : ℕ → (ℕ → ℕ) → ℕ → ℕ
-roundedBy a E zero = 0
-roundedBy a E (suc n) = roundedBy a E n + roundings a (rows a E n .masses)
 
 -- What a step asks of a row: a live count, spent masses that e allows, and no mass lost.
 pub record Sound (e : ℕ) (r : Row) : Type 0 where

@@ -5,7 +5,7 @@ use Prim.Native.Nat.{ℕ, zero, suc, _+_, _≤_, _<_}
 use lib.IntN.{ℤ, pos, negsuc, _-ℤ_}
 use Rattle.walk.specs.Numbers.{le?, lt?, eqZ?, only, sumTo, searchUp, searchDown}
 use Rattle.walk.specs.Units.{M, wide}
-use Rattle.walk.specs.Mass.{massUp}
+use Rattle.walk.specs.Mass.{massUp, rounding}
 
 -- The number just below f. A lower boundary is signed and lies just below the first live count: -1 below count 0.
 unfoldable pub below : ℕ → ℤ
@@ -20,6 +20,8 @@ pub record Walk : Type 0 where
   -- the upper and the lower spent mass
   pub over : ℕ
   pub under : ℕ
+  -- how many new masses were rounded so far
+  pub rounded : ℕ
 
 -- a count c is live
 abbrev pub isLive : ℕ → ℕ → ℕ → Bool
@@ -31,7 +33,7 @@ lower w = below (w .first)
 
 -- step 0
 unfoldable pub start : Walk
-start = record { first = 0; upper = 1; mass = λ c. only (le? c 0) M; over = 0; under = 0 }
+start = record { first = 0; upper = 1; mass = λ c. only (le? c 0) M; over = 0; under = 0; rounded = 0 }
 
 -- the old mass at the count before
 abbrev pub previous : (ℕ → ℕ) → ℕ → ℕ
@@ -45,6 +47,10 @@ cellwise cell g c = cell (g c) (previous g c)
 -- the new masses, by count (rules 3.3)
 abbrev pub newMass : ℕ → (ℕ → ℕ) → ℕ → ℕ
 newMass a g = cellwise (massUp a) g
+
+-- 1 where a new mass was rounded, else 0, by count; none is past count t of step t (specs/Facts, `none-rounded`, `top`)
+abbrev pub newRounding : ℕ → (ℕ → ℕ) → ℕ → ℕ
+newRounding a g = cellwise (rounding a) g
 
 -- of the new masses of step t, which are 0 past count t (specs/Facts, `new-off`, `top`): those at counts ≥ j; those at counts < f, which are
 -- the counts ≤ f - 1
@@ -68,20 +74,21 @@ FitsLower t e g under f = massBelow t g f + under ≤ e
 unfoldable pub firstLive : ℕ → ℕ → (ℕ → ℕ) → ℕ → ℕ
 firstLive t e g under = searchDown (suc t) (λ f. le? (massBelow t g f + under) e)
 
--- masses at or beyond a boundary join that side's spent mass (rules 3.6)
-unfoldable pub absorbed : ℕ → (ℕ → ℕ) → ℕ → ℕ → Walk → Walk
-absorbed t g first upper w = record {
+-- masses at or beyond a boundary join that side's spent mass (rules 3.6); each new mass that was rounded counts, whether it meets a boundary or not
+unfoldable pub absorbed : ℕ → (ℕ → ℕ) → (ℕ → ℕ) → ℕ → ℕ → Walk → Walk
+absorbed t g roundingAt first upper w = record {
   first = first;
   upper = upper;
   mass = λ c. only (isLive first upper c) (g c);
   over = w .over + massFrom t g upper;
   under = w .under + massBelow t g first;
+  rounded = w .rounded + sumTo (suc t) roundingAt;
 }
 
 -- step t, with e = E(t)
 unfoldable pub stepWalk : ℕ → ℕ → ℕ → Walk → Walk
 stepWalk a e t w =
-    absorbed t (newMass a (w .mass))
+    absorbed t (newMass a (w .mass)) (newRounding a (w .mass))
     (firstLive t e (newMass a (w .mass)) (w .under))
     (upperBoundary t e (newMass a (w .mass)) (w .over))
     w

@@ -31,12 +31,14 @@ pub enum Mark {
     AtMost(u32),
 }
 
-// Where a walk stands after a step: its boundaries, between which the live counts lie, and its upper and lower spent mass.
+// Where a walk stands after a step: its boundaries, between which the live counts lie, its upper and lower spent mass, and how many new masses
+// were rounded so far.
 pub struct Walked {
     pub lower: i32,
     pub upper: u32,
     pub over: u64,
     pub under: u64,
+    pub rounded: u32,
 }
 
 // What a pass over masses keeps of them: bits that tell whether each is at most 2^43, and, where they are and are not too many, their sum.

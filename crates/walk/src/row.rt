@@ -7,8 +7,8 @@ ghost use mathlib.Core.List.{_++_};
 ghost use Prim.Native.Nat.{_+_, _-_, _≤_, _<_};
 ghost use lib.ListN.{length, take, drop, replicate};
 ghost use Rattle.walk.specs.Numbers.{sum, allUpTo};
-ghost use Rattle.walk.specs.Units.{million, massLimit};
-ghost use Rattle.walk.specs.Row.{newMasses, kept, dropped};
+ghost use Rattle.walk.specs.Units.{million, wide, massLimit};
+ghost use Rattle.walk.specs.Row.{newMasses, roundings, kept, dropped};
 
 // Where a boundary lies among the new masses, and the spent mass of its side then.
 struct Edge {
@@ -24,20 +24,29 @@ pub(crate) struct Cut {
     pub under: u64,
 }
 
-// New masses, in place (rules 3.3): n live masses become n + 1 new ones. `advance` keeps what it and the others here require.
-pub(crate) fn spread(part: &mut [u64], n: usize, a: u64)
-    requires { ⌜ (n < length (now part)) × (a ≤ million) × (allUpTo massLimit (take n (now part)) ≡ true) ⌝ }
-    ensures { λ r. ⌜ now (part .exit) ≡ newMasses a (take n (now (part .entry))) ++ drop (n + 1) (now (part .entry)) ⌝ }
+// New masses, in place (rules 3.3): n live masses become n + 1 new ones; how many of them were rounded. `advance` keeps what it and the
+// others here require.
+pub(crate) fn spread(part: &mut [u64], n: usize, a: u64) -> u32
+    requires { ⌜ (n < length (now part)) × (n < wide) × (a ≤ million) × (allUpTo massLimit (take n (now part)) ≡ true) ⌝ }
+    ensures { λ r. ⌜
+        (r ≡ roundings a (take n (now (part .entry))))
+        × (now (part .exit) ≡ newMasses a (take n (now (part .entry))) ++ drop (n + 1) (now (part .entry)))
+        ⌝ }
 {
     let mut prev: u64 = 0;
+    let mut rounded: u32 = 0;
     let mut i = 0;
     while i < n {
         let x = part[i];
-        part[i] = mass_up(a, x, prev);
+        let new = mass_up(a, x, prev);
+        part[i] = new.mass;
+        rounded += new.rounding;
         prev = x;
         i += 1;
     }
-    part[n] = mass_up(a, 0, prev);
+    let last = mass_up(a, 0, prev);
+    part[n] = last.mass;
+    rounded + last.rounding
 }
 
 // The upper boundary (rules 3.4): masses are taken off the top while they and the upper spent mass are at most e.

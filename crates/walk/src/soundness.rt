@@ -1,4 +1,4 @@
-// Whether a state that was handed in may be walked on (rules 8.4, of an open threshold).
+// Whether a state that was handed in may be walked on (rules 8.4, of one threshold).
 
 use crate::M;
 use crate::MASS_LIMIT;
@@ -15,16 +15,26 @@ ghost use Rattle.walk.specs.Numbers.{le?, choose, sum, allUpTo};
 ghost use Rattle.walk.specs.Units.{M, massLimit, wide};
 ghost use Rattle.walk.specs.Walk.{below};
 ghost use Rattle.walk.specs.Record.{firstAbove, isWide};
-ghost use Rattle.walk.specs.Soundness.{boundariesSound, isSound};
+ghost use Rattle.walk.specs.Soundness.{roundedFits, boundariesSound, wordsSound};
 ghost use Rattle.walk.specs.Weighing.{Weighs};
 
 // How far apart the boundaries of a wide walk are.
 const WIDE_APART: i64 = WIDE as i64 + 1;
 
+// The most masses that a step rounds.
+const ROUNDED_A_DRAW: u64 = WIDE as u64;
+
 // What `weigh_next` adds to each mass, and the number that tells then.
 const BELOW_LIMIT: u64 = MASS_LIMIT - 1;
 
 const TWICE_LIMIT: u64 = 2 * MASS_LIMIT;
+
+// What refusal 11 asks of the number of masses rounded, of any record. The product is taken in 64 bits, where it does not overflow.
+pub fn rounded_fits(w: Walked, n: u32) -> bool
+    ensures { λ r. ⌜ r ≡ roundedFits n w ⌝ }
+{
+    w.rounded as u64 <= ROUNDED_A_DRAW * n as u64
+}
 
 // What refusal 11 asks of the boundaries and the spent masses, in its order. Differences are taken in 64 bits, where none overflows.
 pub fn boundaries_sound(w: Walked, n: u32, ones: u32, e: u64) -> bool
@@ -120,13 +130,11 @@ fn live_words(w: Walked, len: usize) -> usize
     if counts <= len { counts } else { len }
 }
 
-// Of any words and any record, after n draws with so many ones, with e = E(n): they pass refusal 11.
-pub fn is_sound(part: &[u64], w: Walked, n: u32, ones: u32, e: u64) -> bool
-    ensures { λ r. ⌜ r ≡ isSound e n ones w (now (part .entry)) ⌝ }
+// Of any words, where the boundaries are sound: the live ones pass refusal 11.
+pub fn words_sound(part: &[u64], w: Walked) -> bool
+    requires { ⌜ (w .lower ≡ below (firstAbove (w .lower))) × (firstAbove (w .lower) ≤ w .upper) × (w .upper ≤ firstAbove (w .lower) + wide) ⌝ }
+    ensures { λ r. ⌜ r ≡ wordsSound w (now (part .entry)) ⌝ }
 {
-    if !boundaries_sound(w, n, ones, e) {
-        return false;
-    }
     let m = live_words(w, part.len());
     masses_sound(weigh_first(part, m), w.over, w.under)
 }

@@ -17,6 +17,7 @@ pub fn start_walked() -> Walked
         upper: 1,
         over: 0,
         under: 0,
+        rounded: 0,
     }
 }
 

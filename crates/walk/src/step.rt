@@ -31,7 +31,7 @@ fn raised(lower: i32, by: usize) -> i32
 
 // One step of the walk of the threshold a, in place, with e to spend: the new live masses stand in front, and what stands behind them is
 // left as it comes. The part may be of any length with a word more than are live: the code touches no other word. For `bucket_test` only, which
-// steps a state that `is_sound` lets through after at most 50,000 draws, and that is not wide.
+// steps a state that refusal 11 lets through after at most 50,000 draws, and that is not wide.
 pub fn advance(part: &mut [u64], w: Walked, a: u32, e: u64) -> Walked
     requires { ⌜ Steppable a e w (now part) ⌝ }
     ensures { λ r. ⌜
@@ -41,16 +41,18 @@ pub fn advance(part: &mut [u64], w: Walked, a: u32, e: u64) -> Walked
 {
     let first = first_above(w.lower);
     let n = (w.upper - first) as usize;
-    spread(part, n, a as u64);
+    let more = spread(part, n, a as u64);
     let m = n + 1;
     let cut = trim(part, m, w.over, w.under, e);
     let lower = raised(w.lower, cut.lo);
     let upper = first + cut.hi as u32;
+    let rounded = w.rounded + more;
     Walked {
         lower: lower,
         upper: upper,
         over: cut.over,
         under: cut.under,
+        rounded: rounded,
     }
 }
 

@@ -12,7 +12,7 @@ use Rattle.plan.specs.Places.{joinTo}
 use Rattle.bucket_test.specs.declared.Threshold.{Threshold}
 use Rattle.little.specs.Little.{putAt}
 use Rattle.little.proofs.Putting.{put-none}
-use Rattle.saved_test.specs.Form.{headerSize, recordOffset, formSize, liveCount, massesTo}
+use Rattle.saved_test.specs.Form.{recordSize, massSize, headerSize, recordOffset, formSize, liveCount, massesTo}
 use Rattle.saved_test.specs.Reading.{recordIn, massOffset}
 use Rattle.saved_test.proofs.ReadingLaws.{offset-first}
 use Rattle.calls.specs.Inner.{Seen, newRecord, newRecordBytes, newMassBytes}
@@ -158,7 +158,7 @@ module _ (c : tie.After-live-count Inv-loop μ-loop) where
   grows : live ≤ length (due .before .before .before .before .loop .part)
   grows = omega (arith, new-room _ _ _ _ _ _ _ (start due .pre .0) (i due) (here due) _ (result .0) _ (c .live-count .ensures .0), room due)
 
-  to-is : 24 + 32 * start due .args .count + 8 * masses ≡ offset _ _ _ _ _ _ _ (start due .pre .0) (i due)
+  to-is : headerSize + recordSize * start due .args .count + massSize * masses ≡ offset _ _ _ _ _ _ _ (start due .pre .0) (i due)
   unfolding recordOffset
   to-is = omega (arith, due .before .before .before .before .loop .inv .masses-are)
 

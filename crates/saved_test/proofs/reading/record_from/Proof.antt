@@ -37,6 +37,12 @@ add-read-u64-2 c = search needs
 read-u64-requires-2 : tie.Need-read-u64-requires-2
 read-u64-requires-2 c κs = search needs
 
+add-read-u32-4 : tie.Need-add-read-u32-4
+add-read-u32-4 c = search needs
+
+read-u32-requires-5 : tie.Need-read-u32-requires-5
+read-u32-requires-5 c κs = search needs
+
 mark-of-requires : tie.Need-mark-of-requires
 mark-of-requires c κs = search needs
 
@@ -45,15 +51,16 @@ signed-of-requires c κs = search needs
 
 returns : tie.Need-returns
 returns c =
-    let b = c .before .before .before in
-    record-made _ _ _ _ _ _ _ _ _ _
+    let b = c .before .before .before .before in
+    record-made _ _ _ _ _ _ _ _ _ _ _
     (b .before .before .before .before .read-u32 .ensures .0)
     (b .before .before .before .read-u322 .ensures .0)
     (b .before .read-u323 .ensures .0)
     (b .before .read-u323 .ensures .1)
-    (c .before .before .read-u324 .ensures .0)
-    (c .before .read-u64 .ensures)
-    (c .read-u642 .ensures)
+    (c .before .before .before .read-u324 .ensures .0)
+    (c .before .before .read-u64 .ensures)
+    (c .before .read-u642 .ensures)
+    (c .read-u325 .ensures .0)
     (b .before .before .mark-of .ensures)
     (b .signed-of .ensures)
 
@@ -74,4 +81,6 @@ record-from-spec =
     read-u64-requires
     add-read-u64-2
     read-u64-requires-2
+    add-read-u32-4
+    read-u32-requires-5
     returns)

@@ -1,26 +1,38 @@
--- By cases on the mark.
-use mathlib.Core.Path.{sym, _∙_}
+-- The numbers first; then by cases on the mark.
+use mathlib.Core.Path.{_≡_, sym, _∙_}
+use mathlib.Core.Bool.{true}
 use Prim.Native.Nat.{_+_, _*_, _≤_}
 use lib.ListN.{length}
 use native.Mathlib.Omega.{arith}
 use borrow.Author.Needs.{needs}
 use borrow.Author.Tests.{not-true, not-false}
 use Rattle.walk.specs.Units.{wide}
+use Rattle.bucket_test.specs.Turn.{numbersSound}
+use Rattle.bucket_test.proofs.DrawingLaws.{numbers-fail}
 use Rattle.saved_test.specs.Form.{massSize}
-use Rattle.saved_test.proofs.ReadingLaws.{apart-unsound, masses-decide}
+use Rattle.saved_test.proofs.ReadingLaws.{masses-decide}
 use Rattle.saved_test.proofs.reading.record_sound_in.Statement.{statement}
 use Rattle.saved_test.proofs.reading.record_sound_in.Tie as tie
+
+numbers-sound-requires : tie.Need-numbers-sound-requires
+numbers-sound-requires c κs = search needs
+
+returns : tie.Need-returns
+returns c =
+    let a = c .before .before .before .args in
+    numbers-fail (a .e) (a .n) (a .ones) (a .t .mark) (a .t) _ (sym (c .before .numbers-sound .ensures) ∙ not-true _ (c .if1 .taken))
+
+passed : (c : tie.Else1) → let a = c .before .before .before .args in numbersSound (a .e) (a .n) (a .ones) (a .t .mark) (a .t) ≡ true
+passed c = sym (c .before .numbers-sound .ensures) ∙ not-false _ (c .if1 .left)
 
 enum-told : tie.Need-enum-told
 enum-told c = search needs
 
-boundaries-sound-requires : tie.Need-boundaries-sound-requires
-boundaries-sound-requires c κs = search needs
+enum-told-2 : tie.Need-enum-told-2
+enum-told-2 c = search needs
 
-returns : tie.Need-returns
-returns c =
-    rw (c .before .before .before .enum-told .given .1)
-    (apart-unsound _ _ _ _ (sym (c .before .boundaries-sound .ensures) ∙ not-true _ (c .if1 .taken)) _)
+enum-told-3 : tie.Need-enum-told-3
+enum-told-3 c = search needs
 
 live-count-requires : tie.Need-live-count-requires
 live-count-requires c κs = search needs
@@ -38,46 +50,34 @@ weigh-in-requires c κs = there c
 masses-sound-requires : tie.Need-masses-sound-requires
 masses-sound-requires c κs = search needs
 
-enum-known-mark : tie.Need-enum-known-mark
-enum-known-mark c = search needs
-
-within-requires : tie.Need-within-requires
-within-requires c κs = search needs
-
-enum-known-mark-2 : tie.Need-enum-known-mark-2
-enum-known-mark-2 c = search needs
-
-within-requires-2 : tie.Need-within-requires-2
-within-requires-2 c κs = search needs
-
 returns-2 : tie.Need-returns-2
 returns-2 c =
     let l = c .before .before in
-    let b = l .before .before in
-    rw (b .before .before .enum-told .given .1)
-    (masses-decide _ _ _ _ (sym (b .boundaries-sound .ensures) ∙ not-false _ (l .before .if1 .left)) _ (rw (b .before .before .enum-told .given .1) at (l .live-count .ensures .0)) _ _ _
+    let told = l .before .before in
+    let mark = told .enum-told .given .1 in
+    let a = start l .args in
+    rw mark
+    (masses-decide (a .e) (a .n) (a .ones) (a .t) (rw mark at (passed (told .before .before))) _ (rw mark at (l .live-count .ensures .0)) _ _ _
     (c .masses-sound .ensures _ _ (there l .0) (c .before .weigh-in .ensures)))
 
 returns-3 : tie.Need-returns-3
-returns-3 c = rw (c .before .before .mark .given .1) (c .within .ensures)
+returns-3 c = rw (c .enum-told2 .given .1) (sym (rw (c .enum-told2 .given .1) at (passed (c .before .before))))
 
 returns-4 : tie.Need-returns-4
-returns-4 c = rw (c .before .before .mark2 .given .1) (c .within2 .ensures)
+returns-4 c = rw (c .enum-told3 .given .1) (sym (rw (c .enum-told3 .given .1) at (passed (c .before .before))))
 
 pub record-sound-in-spec : {M : Type 1} → statement M
 record-sound-in-spec =
     tie.close
     (tie.spec
-    enum-told
-    boundaries-sound-requires
+    numbers-sound-requires
     returns
+    enum-told
     live-count-requires
     weigh-in-requires
     masses-sound-requires
-    enum-known-mark
-    within-requires
-    enum-known-mark-2
-    within-requires-2
+    enum-told-2
+    enum-told-3
     returns-2
     returns-3
     returns-4)

@@ -1,6 +1,6 @@
 -- The masses of the thresholds before place i are put.
 use Rattle.saved_test.proofs.WritingLaws.{masses-put, masses-at, masses-room}
-use Rattle.saved_test.specs.Form.{liveCount, massesTo, massBytes}
+use Rattle.saved_test.specs.Form.{headerSize, recordSize, massSize, liveCount, massesTo, massBytes}
 use Rattle.little.proofs.Putting.{put-none}
 use Rattle.little.specs.Little.{putAt}
 use Rattle.bucket_test.proofs.TurningLaws.{part-length, part-lent}
@@ -19,8 +19,8 @@ use Rattle.saved_test.proofs.writing.write_masses.Tie as tie
 abbrev Inv-loop : tie.InvT-loop
 Inv-loop bytes₀ count words records at₀ i₀ bytes at i =
     (i ≤ count) × (length bytes ≡ length bytes₀)
-    × (bytes ≡ putAt (24 + 32 * count) (joinTo i (λ k. massBytes (liveCount (getD records k noRecord)) (partAt k words))) bytes₀)
-    × (at ≡ 24 + 32 * count + 8 * massesTo (λ k. getD records k noRecord) i)
+    × (bytes ≡ putAt (headerSize + recordSize * count) (joinTo i (λ k. massBytes (liveCount (getD records k noRecord)) (partAt k words))) bytes₀)
+    × (at ≡ headerSize + recordSize * count + massSize * massesTo (λ k. getD records k noRecord) i)
 
 abbrev μ-loop : tie.MeasureT-loop
 μ-loop bytes₀ count words records at₀ i₀ bytes at i = count - i
@@ -33,7 +33,7 @@ add-at c = search needs
 
 loop-holds : tie.Need-loop-holds Inv-loop μ-loop
 unfolding joinTo massesTo
-loop-holds c = let a = c .before .before .args in (omega arith, refl, sym (put-none (24 + 32 * a .count) (a .bytes .now)), omega arith)
+loop-holds c = let a = c .before .before .args in (omega arith, refl, sym (put-none (headerSize + recordSize * a .count) (a .bytes .now)), omega arith)
 
 mul-t : tie.Need-mul-t Inv-loop μ-loop
 mul-t c = search needs
@@ -70,7 +70,7 @@ room-at : (c : tie.After-live-count Inv-loop μ-loop) → c .before .before .bef
 room-at c =
     let s = c .before .before .before .before .before .before in
     let l = c .before .before .before .loop in
-    masses-room (s .args .t3) (s .args .words .now) (24 + 32 * s .args .count) (l .i) _ _ (c .live-count .ensures .0) (l .inv .3) (s .args .count) _ (c .before .before .loop-test .taken) (s .pre .3)
+    masses-room (s .args .t3) (s .args .words .now) (headerSize + recordSize * s .args .count) (l .i) _ _ (c .live-count .ensures .0) (l .inv .3) (s .args .count) _ (c .before .before .loop-test .taken) (s .pre .3)
 
 write-part-requires : tie.Need-write-part-requires Inv-loop μ-loop
 unfolding wide
@@ -100,7 +100,7 @@ loop-again c =
     let l = e .before .before .before .loop in
     let s = e .before .before .before .before .before .before in
     let live = e .live-count .ensures .0 in
-    let base = 24 + 32 * s .args .count in (
+    let base = headerSize + recordSize * s .args .count in (
       omega arith,
       search needs,
       masses-put (s .args .t3) (s .args .words .now) base (l .i) _ _ live (l .inv .3) _ (s .args .bytes .now) (l .bytes) _ (part-lent (l .i) (s .args .words .now)) (l .inv .2) (c .before .before .write-part .ensures) (omega (arith, s .pre .3)),
@@ -115,7 +115,7 @@ returns c =
     let l = c .before .loop in
     let n : l .i ≡ c .before .before .before .before .args .count = omega arith in
     let a = c .before .before .before .before .args in
-    l .inv .2 ∙ ap (λ (k : ℕ). putAt (24 + 32 * a .count) (joinTo k (λ m. massBytes (liveCount (getD (a .t3) m noRecord)) (partAt m (a .words .now)))) (a .bytes .now)) n
+    l .inv .2 ∙ ap (λ (k : ℕ). putAt (headerSize + recordSize * a .count) (joinTo k (λ m. massBytes (liveCount (getD (a .t3) m noRecord)) (partAt m (a .words .now)))) (a .bytes .now)) n
 
 pub write-masses-spec : {M : Type 1} → statement M
 write-masses-spec =

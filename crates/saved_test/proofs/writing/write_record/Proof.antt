@@ -45,6 +45,15 @@ add-write-le-2 c = search needs
 write-le-requires-2 : tie.Need-write-le-requires-2
 write-le-requires-2 c κs = search needs
 
+add-write-le-3 : tie.Need-add-write-le-3
+add-write-le-3 c = search needs
+
+cast-write-le : tie.Need-cast-write-le
+cast-write-le c = search needs
+
+write-le-requires-3 : tie.Need-write-le-requires-3
+write-le-requires-3 c κs = search needs
+
 same-length : tie.Need-same-length
 same-length c = search needs
 
@@ -53,11 +62,18 @@ signed c = search needs
 
 returns : tie.Need-returns
 returns c =
-    let s = c .before .before .before .before .before .before .before .before .before .before .before .before .before .before .before .before .before .before .before .before .before .before .before in
+    let le3 = c .before .before in
+    let le2 = le3 .before .before .before .before .before in
+    let le1 = le2 .before .before .before .before in
+    let two2 = le1 .before .before .before .before in
+    let two1 = two2 .before .before .before .before .before in
+    let b = two1 .before .before in
+    let told = b .before in
+    let s = told .before .before .before .before .before in
     let t = s .args .t in
-    let bits = c .before .before .before .before .before .before .before .before .before .before .before .before .before .before .before .before .before .bits-of .ensures ∙ ap (ofZ w32) (toZ-ofZ w32 (t .walked .lower) (signed (c .before .before .before .before .before .before .before .before .before .before .before .before .before .before .before .before .before .before))) in
-    record-put t (s .args .at) _ _ _ (c .before .before .before .before .before .before .before .before .before .before .before .before .before .before .before .before .before .before .before .before .code-of .ensures) (c .before .before .before .before .before .before .before .before .before .before .before .before .before .before .before .before .before .before .before .step-of .ensures) bits _ _ _ _ _ (c .before .before .before .before .before .before .before .before .before .before .before .before .before .before .before .write-two .ensures)
-    (c .before .before .before .before .before .before .before .before .before .before .write-two2 .ensures) (c .before .before .before .before .before .before .write-le .ensures) (c .before .before .write-le2 .ensures) (omega (arith, s .pre))
+    let bits = b .bits-of .ensures ∙ ap (ofZ w32) (toZ-ofZ w32 (t .walked .lower) (signed told)) in
+    record-put t (s .args .at) _ _ _ (told .before .before .code-of .ensures) (told .before .step-of .ensures) bits _ _ _ _ _ _
+    (two1 .write-two .ensures) (two2 .write-two2 .ensures) (le1 .write-le .ensures) (le2 .write-le2 .ensures) (le3 .write-le3 .ensures) (omega (arith, s .pre))
 
 pub write-record-spec : {M : Type 1} → statement M
 write-record-spec =
@@ -75,5 +91,8 @@ write-record-spec =
     write-le-requires
     add-write-le-2
     write-le-requires-2
+    add-write-le-3
+    cast-write-le
+    write-le-requires-3
     same-length
     returns)

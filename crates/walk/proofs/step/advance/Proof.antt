@@ -5,7 +5,7 @@ use native.Mathlib.Omega.{arith}
 use borrow.Author.Needs.{needs}
 use Rattle.walk.specs.Units.{wide, horizonLimit}
 use Rattle.walk.specs.Record.{firstAbove, rowOf}
-use Rattle.walk.proofs.Parts.{order, counted, counted-bits, lower-back, first-is, more, places-fit, stepped}
+use Rattle.walk.proofs.Parts.{order, counted, counted-bits, lower-back, first-is, few-rounded, more, places-fit, stepped}
 use Rattle.walk.proofs.step.advance.Statement.{statement}
 use Rattle.walk.proofs.step.advance.Tie as tie
 
@@ -23,7 +23,7 @@ unfolding rowOf
 spread-requires c κs =
     let s = c .before .before .before .before .before .pre in
     let f = first-is (counted s) (c .before .before .first-above .ensures) in
-    (omega (arith, f, s .room), s .threshold, rw f (s .small))
+    (omega (arith, f, s .room), omega (arith, f, s .narrow, order s), s .threshold, rw f (s .small))
 
 add-m : tie.Need-add-m
 add-m c = search needs
@@ -35,7 +35,7 @@ trim-requires c κs =
     let spread = c .before .before .before .spread in
     let live = c .before .before .before .before .before .before .first-above in
     let f = first-is (counted s) (live .ensures) in
-    omega (arith, f, spread .kept .0, s .room, s .sound, more s (live .result) f (spread .last .0) (spread .ensures))
+    omega (arith, f, spread .kept .0, s .room, s .sound, more s (live .result) f (spread .last .0) (spread .ensures .1))
 
 -- after `trim`: both places are among the words, and the record is the definition's
 module _ (c : tie.After-trim) where
@@ -46,7 +46,7 @@ module _ (c : tie.After-trim) where
   f-is = first-is (counted (start .pre)) (c .before .before .before .before .before .before .before .first-above .ensures)
 
   fits : (c .trim .result .hi ≤ wide) × (c .trim .result .lo ≤ wide)
-  fits = places-fit (start .pre) _ f-is _ (c .before .before .before .before .spread .ensures) _ _ (c .trim .ensures)
+  fits = places-fit (start .pre) _ f-is _ (c .before .before .before .before .spread .ensures .1) _ _ (c .trim .ensures)
 
 raised-requires : tie.Need-raised-requires
 raised-requires c κs =
@@ -64,13 +64,21 @@ add-upper c =
     let t = c .before .before .before .before .before in
     record { fits = omega (arith, fits t, f-is t, counted (start t .pre)) }
 
+add-rounded : tie.Need-add-rounded
+unfolding wide horizonLimit
+add-rounded c =
+    let t = c .before .before .before .before .before .before in
+    let spread = t .before .before .before .before .spread in
+    record { fits = omega (arith, spread .ensures .0, few-rounded (start t .pre) _ (f-is t) _ (spread .ensures .1), start t .pre .rounded-fits) }
+
 same-length : tie.Need-same-length
 same-length c = search needs
 
 returns : tie.Need-returns
 returns c =
-    let t = c .before .before .before .before .before in
-    stepped (start t .pre) _ (f-is t) _ (t .before .before .before .before .spread .ensures) _ _ (t .trim .ensures) _ (c .before .raised .ensures)
+    let t = c .before .before .before .before .before .before in
+    stepped (start t .pre) _ (f-is t) _ (t .before .before .before .before .spread .ensures .1) _ _ (t .trim .ensures) _ (c .before .before .raised .ensures)
+    _ (t .before .before .before .before .spread .ensures .0)
 
 pub advance-spec : {M : Type 1} → statement M
 advance-spec =
@@ -85,5 +93,6 @@ advance-spec =
     raised-requires
     cast-upper
     add-upper
+    add-rounded
     same-length
     returns)
