@@ -12,7 +12,8 @@ use crate::outcomes::kind_of_refusal;
 use crate::rng::Rng;
 use crate::rows::{Outcome, Rows, MET, OUTCOMES};
 use crate::saved_cases::{any_run, any_scene, numbers_of, plan_bytes, sound_scene, OTHER_DRAWS};
-use crate::saved_examples::{bytes_of, small_forms, AFTER_0, AFTER_11111, FORMS, OLDER, PLAN_F, REPLACED};
+use crate::saved_examples::{bytes_of, small_forms, Printed, Replaced, FORMS, IN_OPEN, IN_SETTLED, OLDER, PLAN_F};
+use crate::saved_examples::{F_AFTER_0, F_AFTER_11111, G_AFTER_0100};
 use crate::scenes::Scene;
 use crate::tally::conclude;
 use crate::wrong::{Wrong, BEGIN, CHAIN, DRAW};
@@ -83,6 +84,16 @@ fn draw(rows: &mut Rows, rng: &mut Rng, entry: &'static str, call: Call, room: u
 
 // ---- printed trials
 
+/// A number of a form replaced, with the draws 0 and 2.
+fn compare_replaced(rows: &mut Rows, rng: &mut Rng, (draft, .., form): Printed, (at, size, other, number): Replaced) {
+    let (plan, mut saved) = (draft().store(), bytes_of(form));
+    put(&mut saved, at, size, other);
+    for (d, number) in [(0, number), (2, if number == 15 { 15 } else { 9 })] {
+        let got = draw(rows, rng, DRAW, Call { plan: &plan, saved: &saved, d }, 200).0;
+        rows.holds(DRAW, got == number, || format!("{other} at {at} of {form}, draw {d}: {got} for {number}"));
+    }
+}
+
 fn compare_examples(rows: &mut Rows, rng: &mut Rng) {
     let plan = bytes_of(PLAN_F);
     rows.holds(BEGIN, plan == plan_f().store(), || "plan F is not as printed".into());
@@ -106,7 +117,7 @@ fn compare_examples(rows: &mut Rows, rng: &mut Rng) {
             rows.holds(DRAW, got == 15, || format!("older layout, draw {d}: {got}: {form}"));
         }
     }
-    let (ended, open) = (bytes_of(AFTER_11111), [bytes_of(AFTER_0), vec![0]].concat());
+    let (ended, open) = (bytes_of(F_AFTER_11111.3), [bytes_of(F_AFTER_0.3), vec![0]].concat());
     let [ended, cut, open, short, long] = [&ended[..60], &ended[..59], &open[..76], &open[..75], &open[..77]];
     let ended = [(ended, 1, 68, 10), (ended, 2, 68, 9), (ended, 1, 0, 10), (cut, 2, 68, 15)];
     let open = [(open, 0, 84, 100), (open, 0, 83, 12), (short, 0, 84, 15), (long, 0, 84, 15), (long, 2, 84, 15)];
@@ -114,14 +125,8 @@ fn compare_examples(rows: &mut Rows, rng: &mut Rng) {
         let got = draw(rows, rng, DRAW, Call { plan: &plan, saved, d }, room).0;
         rows.holds(DRAW, got == number, || format!("{saved:?}, draw {d}, {room} lent: {got} for {number}"));
     }
-    for (at, size, other, number) in REPLACED {
-        let mut saved = bytes_of(AFTER_0);
-        put(&mut saved, at, size, other);
-        for (d, number) in [(0, number), (2, if number == 15 { 15 } else { 9 })] {
-            let got = draw(rows, rng, DRAW, Call { plan: &plan, saved: &saved, d }, 84).0;
-            rows.holds(DRAW, got == number, || format!("{other} at {at}, draw {d}: {got} for {number}"));
-        }
-    }
+    IN_OPEN.into_iter().for_each(|replaced| compare_replaced(rows, rng, F_AFTER_0, replaced));
+    IN_SETTLED.into_iter().for_each(|replaced| compare_replaced(rows, rng, G_AFTER_0100, replaced));
 }
 
 // ---- chains

@@ -12,7 +12,7 @@ pub const PLAN_F: &str =
     "0100020010001c00e8030000c800000050c300002fdd2406010000000000000050c3000050c3000040420f00";
 
 /// A plan, draws to it, the number that the last call returns, and the form after them.
-type Printed = (fn() -> Draft, &'static [u32], u32, &'static str);
+pub type Printed = (fn() -> Draft, &'static [u32], u32, &'static str);
 
 /// Forms of the plans F and G (saved 8).
 pub const FORMS: [Printed; 8] = [
@@ -76,9 +76,9 @@ pub const FORMS: [Printed; 8] = [
     ),
 ];
 
-/// The forms of plan F after the draws 0, and 11111.
-pub const AFTER_0: &str = FORMS[2].3;
-pub const AFTER_11111: &str = FORMS[3].3;
+pub const F_AFTER_0: Printed = FORMS[2];
+pub const F_AFTER_11111: Printed = FORMS[3];
+pub const G_AFTER_0100: Printed = FORMS[7];
 
 /// Forms of the same in the older layout, as they were printed then: 15 refuses them.
 pub const OLDER: [(fn() -> Draft, &[u32], &str); 5] = [
@@ -120,8 +120,11 @@ pub fn bytes_of(hexadecimal: &str) -> Vec<u8> {
     pairs.map(byte).collect()
 }
 
-/// Where a number of `AFTER_0` stands, its bytes, another number for it, and what the next draw, 0, then returns.
-pub const REPLACED: [(usize, usize, u64, u32); 28] = [
+/// Where a number of a form stands, its bytes, another number for it, and what the next draw, 0, then returns.
+pub type Replaced = (usize, usize, u64, u32);
+
+/// Of plan F's form after the draw 0.
+pub const IN_OPEN: [Replaced; 28] = [
     (0, 2, 2, 15),
     (2, 2, 1, 15),
     (2, 2, 3, 15),
@@ -151,6 +154,10 @@ pub const REPLACED: [(usize, usize, u64, u32); 28] = [
     (56, 4, 0, 100),
     (60, 8, 1 << 43, 100),
 ];
+
+/// Of plan G's form after the draws 0100: masses rounded by the threshold that is settled at step 2.
+pub const IN_SETTLED: [Replaced; 4] =
+    [(56, 4, 1539, 102), (56, 4, 3076, 102), (56, 4, 3077, 11), (56, 4, u32::MAX as u64, 11)];
 
 /// A test carried from its beginning.
 pub fn carried(draft: &Draft, draws: &[u32]) -> Scene {
