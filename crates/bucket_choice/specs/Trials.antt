@@ -4,7 +4,7 @@ use mathlib.Core.List.{List, [], _∷_, _++_}
 use mathlib.Core.Path.{_≡_}
 use Prim.Native.Nat.{ℕ, _-_}
 use lib.ListN.{length, replicate}
-use Rattle.plan.specs.Plan.{countLimit, bucketLimit}
+use Rattle.plan.specs.Plan.{countLimit, bucketLimit, pointLimit}
 use Rattle.bucket_choice.specs.Choice.{chosenBucket, firstBucket}
 use Rattle.plan.specs.declared.Plan.{Plan}
 
@@ -15,10 +15,13 @@ planWith thresholds allowance horizon buckets left right = record {
   buckets = buckets;
   delay = 1000;
   horizon = horizon;
+  points = 0;
   thresholds = thresholds ++ replicate (countLimit - length thresholds) 0;
   allowances = replicate (length thresholds) allowance ++ replicate (countLimit - length thresholds) 0;
   left = left ++ replicate (bucketLimit - length left) 0;
   right = right ++ replicate (bucketLimit - length right) 0;
+  steps = replicate pointLimit 0;
+  shares = replicate pointLimit 0;
 }
 
 -- the star buckets

@@ -5,7 +5,7 @@ use mathlib.Core.List.{List}
 use Prim.Native.Nat.{ℕ, zero, suc, _+_, _<_}
 use lib.ListN.{getD}
 use Rattle.walk.specs.Numbers.{le?}
-use Rattle.plan.specs.Plan.{thresholdAt, allowanceAt, leftAt, rightAt, planRefusal}
+use Rattle.plan.specs.Plan.{thresholdAt, allowanceAt, leftAt, rightAt, stepAt, shareAt, planRefusal}
 use Rattle.plan.specs.SameCounted.{SameRules}
 use Rattle.bucket_choice.specs.Choice.{chosenBucket}
 use Rattle.bucket_test.specs.Words.{wordsFit}
@@ -21,14 +21,15 @@ use Rattle.plan.proofs.SameCountedLaws.{withPlaces, by-places, same-rules}
 use Rattle.bucket_test.proofs.AnsweringLaws.{answer-cong}
 
 -- other places in the plan p, the same where p counts
-module _ (p : Plan) (thresholds allowances left right : List ℕ)
+module _ (p : Plan) (thresholds allowances left right steps shares : List ℕ)
     (entries : (i : ℕ) → i < p .count → (getD thresholds i 0 ≡ thresholdAt p i) × (getD allowances i 0 ≡ allowanceAt p i))
-    (ends : (j : ℕ) → j < p .buckets → (getD left j 0 ≡ leftAt p j) × (getD right j 0 ≡ rightAt p j)) where
+    (ends : (j : ℕ) → j < p .buckets → (getD left j 0 ≡ leftAt p j) × (getD right j 0 ≡ rightAt p j))
+    (points : (j : ℕ) → j < p .points → (getD steps j 0 ≡ stepAt p j) × (getD shares j 0 ≡ shareAt p j)) where
   abbrev q : Plan
-  q = withPlaces p thresholds allowances left right
+  q = withPlaces p thresholds allowances left right steps shares
 
   rules : SameRules p q
-  rules = same-rules p q (record { counts = (refl, refl); times = (refl, refl); entries = entries; ends = ends })
+  rules = same-rules p q (record { counts = (refl, refl, refl); times = (refl, refl); entries = entries; ends = ends; points = points })
 
   -- ---- the answer to a state
 
@@ -103,4 +104,6 @@ module _ (p : Plan) (thresholds allowances left right : List ℕ)
   }
 
 pub ignored : IgnoredTheorem
-ignored p q c = by-places (SameTest p) p q c (same p (q .thresholds) (q .allowances) (q .left) (q .right) (c .entries) (c .ends))
+ignored p q c =
+    by-places (SameTest p) p q c
+    (same p (q .thresholds) (q .allowances) (q .left) (q .right) (q .steps) (q .shares) (c .entries) (c .ends) (c .points))

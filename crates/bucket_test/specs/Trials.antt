@@ -1,21 +1,26 @@
--- The trials that are proved, P1 to P10 and numbers of masses rounded (rules 11.1), the two powers of 2, and answers that name the narrowest bucket
--- (rules 11.4): what is computed from the definitions beside what the rules print, a line each.
+-- The trials that are proved, P1 to P10 and numbers of masses rounded (rules 11.1), the two powers of 2, answers that name the narrowest bucket
+-- (rules 11.4), and a plan with points (rules 11.5): what is computed from the definitions beside what the rules print, a line each.
 use mathlib.Core.Path.{_≡_}
 use mathlib.Core.List.{List, [], _∷_, _++_, map}
-use Prim.Native.Nat.{ℕ, zero, suc, _+_, _-_, _^_}
+use Prim.Native.Nat.{ℕ, zero, suc, _+_, _*_, _-_, _^_}
 use lib.IntN.{ℤ, pos, negsuc}
 use lib.ListN.{length, replicate}
-use Rattle.walk.specs.Units.{M, massLimit}
+use Rattle.walk.specs.Units.{M, wide, massLimit}
 use Rattle.walk.specs.Spending.{spending}
 use Rattle.walk.specs.Walk.{walk, lower}
+use Rattle.walk.specs.Row.{upper, rows}
 use Rattle.walk.specs.declared.Mark.{Mark}
 use Rattle.walk.specs.declared.Mark.the-variants.{Open, Above, AtMost}
 use Rattle.plan.specs.Places.{unless}
 use Rattle.plan.specs.Plan.{countLimit, thresholdAt, spendingOf, planRefusal}
 use Rattle.plan.specs.PlanF.{planF}
+use Rattle.plan.specs.Trials.{withPoints, planOfPoints}
 use Rattle.bucket_choice.specs.Trials.{planWith, starPlan}
 use Rattle.bucket_test.specs.Turn.{startRecord, recordSound}
 use Rattle.bucket_test.specs.Answers.{lowOf, highOf, answerOf, bucketOf, wordOf}
+use Rattle.bucket_test.specs.Draw.{Outcome}
+use Rattle.bucket_test.specs.Carried.{carried}
+use Rattle.bucket_test.specs.declared.Answer.the-variants.{Open as OpenAnswer, Decided}
 use Rattle.bucket_test.specs.declared.State.{State}
 use Rattle.plan.specs.declared.Plan.{Plan}
 
@@ -68,6 +73,23 @@ refusalOf11 m rounded =
     (record { mark = m; walked = record { lower = negsuc 0; upper = 3; over = 0; under = 0; rounded = rounded } })
     (3969236976272 ∷ 417814418556 ∷ 10995116278 ∷ [])) 11)
 
+-- .. and of a plan with points
+abbrev boundariesOfPoints : ℕ → List ℤ
+boundariesOfPoints = boundaries (thresholdAt planOfPoints 0) (spendingOf planOfPoints 0)
+
+-- the threshold 100,000 with one point, the whole allowance at step 30: its upper boundary of step t
+abbrev upperOfOnePoint : ℕ → ℤ
+upperOfOnePoint t = pos (upper (rows 100000 (spendingOf (withPoints 2199023255551 1000 40 100000 (30 ∷ []) (1000000 ∷ [])) 0) t))
+
+-- the test after these draws, latest first: the word of its answer, the bucket's number, n, S, low and high
+abbrev testAfter : Plan → List ℕ → Outcome
+testAfter p ds = carried p (replicate (wide * p .count) 0) ds
+
+abbrev lineAfter : Plan → List ℕ → List ℤ
+lineAfter p ds =
+    let o = testAfter p ds in
+    map pos (wordOf (o .answer) ++ (bucketOf (o .answer) ∷ o .state .n ∷ o .state .ones ∷ lowOf p (o .state) ∷ highOf p (o .state) ∷ []))
+
 unfoldable pub computed : List (List ℤ)
 computed =
     -- the whole, and the largest live word of a state that is not spoiled
@@ -112,6 +134,18 @@ computed =
     ∷ answered planOfFour (stateMarked (Above 5 ∷ AtMost 5 ∷ []))
     ∷ answered planOfFour (stateMarked (AtMost 5 ∷ Above 5 ∷ []))
     ∷ answered starPlan (stateMarked (Above 5 ∷ Above 5 ∷ replicate 7 (AtMost 5)))
+    -- a plan with two points: E(1) and E(2), boundaries of steps 1 to 4, the upper one dropping at step 2
+    ∷ (pos (spendingOf planOfPoints 0 1) ∷ pos (spendingOf planOfPoints 0 2) ∷ [])
+    ∷ boundariesOfPoints 1
+    ∷ boundariesOfPoints 2
+    ∷ boundariesOfPoints 3
+    ∷ boundariesOfPoints 4
+    -- after the draws 1; 1, 0, where a 0 marks above; and 0, 1
+    ∷ lineAfter planOfPoints (1 ∷ [])
+    ∷ lineAfter planOfPoints (0 ∷ 1 ∷ [])
+    ∷ lineAfter planOfPoints (1 ∷ 0 ∷ [])
+    -- an upper boundary that drops by many at once, at steps 29 and 30
+    ∷ (upperOfOnePoint 29 ∷ upperOfOnePoint 30 ∷ [])
     ∷ []
 
 unfoldable pub printed : List (List ℤ)
@@ -156,8 +190,22 @@ printed =
     ∷ (pos 1 ∷ pos 10000 ∷ pos 50000 ∷ [])
     ∷ (pos 0 ∷ pos 50000 ∷ pos 10000 ∷ [])
     ∷ (pos 5 ∷ pos 1000 ∷ pos 2000 ∷ [])
+    -- two points
+    ∷ (pos 219902325555 ∷ pos 879609302220 ∷ [])
+    ∷ (pos 2 ∷ negsuc 0 ∷ [])
+    ∷ (pos 1 ∷ negsuc 0 ∷ [])
+    ∷ (pos 2 ∷ negsuc 0 ∷ [])
+    ∷ (pos 2 ∷ negsuc 0 ∷ [])
+    -- open 0 1 1 0 1000000; decided 2 2 1 100000 1000000; the same
+    ∷ map pos (wordOf OpenAnswer ++ (0 ∷ 1 ∷ 1 ∷ 0 ∷ 1000000 ∷ []))
+    ∷ map pos (wordOf (Decided 2) ++ (2 ∷ 2 ∷ 1 ∷ 100000 ∷ 1000000 ∷ []))
+    ∷ map pos (wordOf (Decided 2) ++ (2 ∷ 2 ∷ 1 ∷ 100000 ∷ 1000000 ∷ []))
+    -- from 30 to 4
+    ∷ (pos 30 ∷ pos 4 ∷ [])
     ∷ []
 
 -- the joint statement, and that these plans are accepted
 abbrev pub TrialsTheorem : Type 0
-TrialsTheorem = (computed ≡ printed) × ((planRefusal planF ≡ 0) × ((planRefusal planOfFour ≡ 0) × (planRefusal starPlan ≡ 0)))
+TrialsTheorem =
+    (computed ≡ printed)
+    × ((planRefusal planF ≡ 0) × ((planRefusal planOfFour ≡ 0) × ((planRefusal starPlan ≡ 0) × (planRefusal planOfPoints ≡ 0))))

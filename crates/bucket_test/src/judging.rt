@@ -4,6 +4,7 @@ use crate::State;
 use crate::Threshold;
 use plan::Plan;
 use plan::rules::within;
+use plan::spending::portion_at;
 use walk::Mark;
 use walk::WIDE;
 use walk::soundness::boundaries_sound;
@@ -56,9 +57,10 @@ fn records_sound(p: Plan, s: State, words: &[u64]) -> bool
     ensures { λ r. ⌜ r ≡ allTo (p .count) (λ i. recordSoundAt p (now (words .entry)) (s .n) (s .ones) i (recordAt s i)) ⌝ }
 {
     let count = p.count as usize;
+    let portion = portion_at(p.delay, p.points, &p.steps, &p.shares, s.n);
     for i in 0..count {
         let t = s.records[i];
-        let e = spending_at(p.allowances[i], p.delay, s.n);
+        let e = spending_at(p.allowances[i], portion);
         let at = WIDE * i;
         if !record_sound(t, &words[at..at + WIDE], e, s.n, s.ones) {
             return false;

@@ -3,6 +3,7 @@
 use crate::Threshold;
 use plan::COUNT_LIMIT;
 use plan::Plan;
+use plan::spending::portion_at;
 use walk::Mark;
 use walk::WIDE;
 use walk::Walked;
@@ -105,11 +106,12 @@ pub(crate) fn turn_all(
         ⌝ }
 {
     let count = p.count as usize;
+    let portion = portion_at(p.delay, p.points, &p.steps, &p.shares, n);
     let mut next = records;
     for i in 0..count {
         let t = next[i];
         let a = p.thresholds[i];
-        let e = spending_at(p.allowances[i], p.delay, n);
+        let e = spending_at(p.allowances[i], portion);
         let at = WIDE * i;
         next[i] = turn(t, &mut words[at..at + WIDE], a, e, n, ones);
     }

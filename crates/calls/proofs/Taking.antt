@@ -13,14 +13,17 @@ use Rattle.walk.specs.Walk.{below, wide?}
 use Rattle.walk.specs.Strings.{markOpen}
 use Rattle.walk.specs.Record.{isWide}
 use Rattle.walk.specs.declared.Mark.{Mark}
+use Rattle.walk.specs.declared.Portion.{Portion}
 use Rattle.walk.specs.declared.Mark.the-variants.{Open, Above, AtMost}
 use Rattle.walk.proofs.Tests.{le?-complete, le?-sound}
 use Rattle.walk.proofs.Boundaries.{wide-fails}
-use Rattle.plan.specs.Plan.{countLimit, spendingOf, planRefusal, Accepted}
+use Rattle.plan.specs.Plan.{countLimit, planRefusal, Accepted}
+use Rattle.plan.specs.Tables.{portionOf}
 use Rattle.plan.specs.declared.Plan.{Plan}
 use Rattle.plan.proofs.PlaceLaws.{any-cong, largest-cong, smallest-cong}
 use Rattle.plan.proofs.PlaceLists.{join-cong}
 use Rattle.plan.proofs.AcceptedLaws.{accepted}
+use Rattle.plan.proofs.SpendingLaws.{portion-spends, portion-fits}
 use Rattle.bucket_test.specs.Words.{partAt}
 use Rattle.bucket_test.specs.Turn.{recordAt, wideOpen}
 use Rattle.bucket_test.specs.Answers.{answerOf, isEnding}
@@ -98,33 +101,30 @@ module _ (p : Plan) (bytes : List ℕ) (d : ℕ) (good : planRefusal p ≡ 0) (f
     ones-few = ones-fit p s ws good fits goes-on sound
 
     abbrev new : ℕ → Threshold
-    new = newRecord (p .thresholds) (p .allowances) (p .count) (p .delay) (suc (s .n)) (s .ones + d) bytes
+    new = newRecord (p .thresholds) (p .allowances) (p .count) (portionOf p (suc (s .n))) (suc (s .n)) (s .ones + d) bytes
 
     abbrev newPartAt : ℕ → List ℕ
-    newPartAt = newPart (p .thresholds) (p .allowances) (p .count) (p .delay) (suc (s .n)) (s .ones + d) bytes
+    newPartAt = newPart (p .thresholds) (p .allowances) (p .count) (portionOf p (suc (s .n))) (suc (s .n)) (s .ones + d) bytes
 
     record-is : (i : ℕ) → i < p .count → recordAt next i ≡ new i
-    unfolding spendingOf
-    record-is i l = rw (record-held p bytes (ok .count-range .1) i l, part-held p bytes i l) at (record-next p s ws d good fits goes-on sound i l)
+    record-is i l = rw (record-held p bytes (ok .count-range .1) i l, part-held p bytes i l, portion-spends p i (suc (s .n))) at (record-next p s ws d good fits goes-on sound i l)
 
     part-is : (i : ℕ) → i < p .count → partAt i (nextWords p s ws d) ≡ newPartAt i
-    unfolding spendingOf
-    part-is i l = rw (record-held p bytes (ok .count-range .1) i l, part-held p bytes i l) at (part-next p s ws d good fits goes-on sound i l)
+    part-is i l = rw (record-held p bytes (ok .count-range .1) i l, part-held p bytes i l, portion-spends p i (suc (s .n))) at (part-next p s ws d good fits goes-on sound i l)
 
-    turns : Turns (p .thresholds) (p .allowances) (p .count) (p .delay) (suc (s .n)) (s .ones + d) bytes
-    unfolding spendingOf
+    turns : Turns (p .thresholds) (p .allowances) (p .count) (portionOf p (suc (s .n))) (suc (s .n)) (s .ones + d) bytes
     turns = record {
       few = ok .count-range .1;
       allowed = λ i l. ok .allowance-range i l .1;
-      delayed = ok .delay-range .0;
+      spendable = portion-fits p ok (suc (s .n)) (omega (arith, in-time));
       early = omega (arith, in-time);
       form = form-held p bytes form;
-      may = λ i l. rw (record-held p bytes (ok .count-range .1) i l, part-held p bytes i l) at (all-may-turn p s ws good fits goes-on sound i l);
+      may = λ i l. rw (record-held p bytes (ok .count-range .1) i l, part-held p bytes i l, portion-spends p i (suc (s .n))) at (all-may-turn p s ws good fits goes-on sound i l);
     }
 
     -- ---- the ways out
 
-    size-is : newSize (p .thresholds) (p .allowances) (p .count) (p .delay) (suc (s .n)) (s .ones + d) bytes ≡ savedSize p next
+    size-is : newSize (p .thresholds) (p .allowances) (p .count) (portionOf p (suc (s .n))) (suc (s .n)) (s .ones + d) bytes ≡ savedSize p next
     size-is = ap (formSize (p .count)) (sym (masses-cong (recordAt next) new (p .count) record-is))
 
     -- the new form is no longer than the longest
@@ -134,7 +134,7 @@ module _ (p : Plan) (bytes : List ℕ) (d : ℕ) (good : planRefusal p ≡ 0) (f
     drawn-is : outcome p bytes d [] ≡ record { answer = answerOf p next; state = next; words = nextWords p s ws d }
     drawn-is = drawn-by p s ws d 0 (not-before)
 
-    took-12 : (lent : List ℕ) → le? (newSize (p .thresholds) (p .allowances) (p .count) (p .delay) (suc (s .n)) (s .ones + d) bytes) (length lent) ≡ false
+    took-12 : (lent : List ℕ) → le? (newSize (p .thresholds) (p .allowances) (p .count) (portionOf p (suc (s .n))) (suc (s .n)) (s .ones + d) bytes) (length lent) ≡ false
         → (r : Taken) → r .refusal ≡ 12 → Took p bytes d lent r lent
     took-12 lent small r is =
         let e : le? (savedSize p next) (length lent) ≡ false = rw size-is at small in
@@ -151,16 +151,16 @@ module _ (p : Plan) (bytes : List ℕ) (d : ℕ) (good : planRefusal p ≡ 0) (f
       wide = h .wide ∙ any-cong (p .count) _ _ (λ i l. rw (record-is i l));
     }
 
-    entries-are : newEntries (p .thresholds) (p .allowances) (p .count) (p .delay) (suc (s .n)) (s .ones + d) bytes
+    entries-are : newEntries (p .thresholds) (p .allowances) (p .count) (portionOf p (suc (s .n))) (suc (s .n)) (s .ones + d) bytes
         ≡ recordEntries p next ++ massEntries p next (nextWords p s ws d)
     unfolding recordEntries massEntries
     entries-are =
         ap₂ _++_ (join-cong (p .count) _ _ (λ i l. ap recordBytes (sym (record-is i l))))
         (join-cong (p .count) _ _ (λ i l. rw (record-is i l, part-is i l)))
 
-    took-form : (lent : List ℕ) → le? (newSize (p .thresholds) (p .allowances) (p .count) (p .delay) (suc (s .n)) (s .ones + d) bytes) (length lent) ≡ true
+    took-form : (lent : List ℕ) → le? (newSize (p .thresholds) (p .allowances) (p .count) (portionOf p (suc (s .n))) (suc (s .n)) (s .ones + d) bytes) (length lent) ≡ true
         → (b₁ b₂ : List ℕ)
-        → b₁ ≡ putAt headerSize (newEntries (p .thresholds) (p .allowances) (p .count) (p .delay) (suc (s .n)) (s .ones + d) bytes) lent
+        → b₁ ≡ putAt headerSize (newEntries (p .thresholds) (p .allowances) (p .count) (portionOf p (suc (s .n))) (suc (s .n)) (s .ones + d) bytes) lent
         → b₂ ≡ putAt 0 (savedHeader p next) b₁ → (r : Taken) → r .refusal ≡ 0
         → Seen (p .thresholds) (p .count) new (record { low = r .low; high = r .high; wide = r .wide }) → Took p bytes d lent r b₂
     unfolding savedForm formSize recordOffset
@@ -183,11 +183,11 @@ module _ (p : Plan) (bytes : List ℕ) (d : ℕ) (good : planRefusal p ≡ 0) (f
 header-cong : {k k′ m m′ n n′ o o′ : ℕ} → k ≡ k′ → m ≡ m′ → n ≡ n′ → o ≡ o′ → header k m n o ≡ header k′ m′ n′ o′
 header-cong k m n o = rw (k, m, n, o)
 
-along : (P : List ℕ → List ℕ → ℕ → ℕ → ℕ → ℕ → Type 0) {ts ts′ xs xs′ : List ℕ} {k k′ w w′ m m′ o o′ : ℕ} → ts ≡ ts′ → xs ≡ xs′ → k ≡ k′ → w ≡ w′ → m ≡ m′
+along : (P : List ℕ → List ℕ → ℕ → Portion → ℕ → ℕ → Type 0) {ts ts′ xs xs′ : List ℕ} {k k′ : ℕ} {w w′ : Portion} {m m′ o o′ : ℕ} → ts ≡ ts′ → xs ≡ xs′ → k ≡ k′ → w ≡ w′ → m ≡ m′
     → o ≡ o′ → P ts xs k w m o → P ts′ xs′ k′ w′ m′ o′
 along P t x k w m o h = rw (t, x, k, w, m, o) at h
 
-module _ (thresholds allowances : List ℕ) (count delay : ℕ) (bytes : List ℕ) (d : ℕ) (j : Ready thresholds allowances count delay bytes d) where
+module _ (thresholds allowances : List ℕ) (count : ℕ) (portion : Portion) (bytes : List ℕ) (d : ℕ) (j : Ready thresholds allowances count portion bytes d) where
   abbrev plan : Plan
   plan = j .plan
 
@@ -232,32 +232,36 @@ module _ (thresholds allowances : List ℕ) (count delay : ℕ) (bytes : List �
     unfolding stateIn
     ones-next = sym ones-is
 
+    portion-next : portionOf plan (suc (stateIn plan bytes .n)) ≡ portion
+    unfolding stateIn
+    portion-next = j .portion-is
+
     -- what holds by the plan's tables holds by these, and the other way round
-    by-tables : (P : List ℕ → List ℕ → ℕ → ℕ → ℕ → ℕ → Type 0)
-        → P (plan .thresholds) (plan .allowances) (plan .count) (plan .delay) (suc (stateIn plan bytes .n)) (stateIn plan bytes .ones + d)
-        → P thresholds allowances count delay n ones
-    by-tables P = along P (j .thresholds-are) (j .allowances-are) (j .count-is) (j .delay-is) n-next ones-next
+    by-tables : (P : List ℕ → List ℕ → ℕ → Portion → ℕ → ℕ → Type 0)
+        → P (plan .thresholds) (plan .allowances) (plan .count) (portionOf plan (suc (stateIn plan bytes .n))) (suc (stateIn plan bytes .n)) (stateIn plan bytes .ones + d)
+        → P thresholds allowances count portion n ones
+    by-tables P = along P (j .thresholds-are) (j .allowances-are) (j .count-is) portion-next n-next ones-next
 
-    by-plan : (P : List ℕ → List ℕ → ℕ → ℕ → ℕ → ℕ → Type 0) → P thresholds allowances count delay n ones
-        → P (plan .thresholds) (plan .allowances) (plan .count) (plan .delay) (suc (stateIn plan bytes .n)) (stateIn plan bytes .ones + d)
-    by-plan P = along P (sym (j .thresholds-are)) (sym (j .allowances-are)) (sym (j .count-is)) (sym (j .delay-is)) (sym n-next) (sym ones-next)
+    by-plan : (P : List ℕ → List ℕ → ℕ → Portion → ℕ → ℕ → Type 0) → P thresholds allowances count portion n ones
+        → P (plan .thresholds) (plan .allowances) (plan .count) (portionOf plan (suc (stateIn plan bytes .n))) (suc (stateIn plan bytes .n)) (stateIn plan bytes .ones + d)
+    by-plan P = along P (sym (j .thresholds-are)) (sym (j .allowances-are)) (sym (j .count-is)) (sym portion-next) (sym n-next) (sym ones-next)
 
-    pub ready-turns : Turns thresholds allowances count delay n ones bytes
+    pub ready-turns : Turns thresholds allowances count portion n ones bytes
     ready-turns =
         by-tables (λ ts xs k w m o. Turns ts xs k w m o bytes) (turns plan bytes d (j .judged) (j .form) (j .bit) (j .goes-on) (j .sound))
 
-    pub ready-12 : (lent : List ℕ) → le? (newSize thresholds allowances count delay n ones bytes) (length lent) ≡ false → (r : Taken)
+    pub ready-12 : (lent : List ℕ) → le? (newSize thresholds allowances count portion n ones bytes) (length lent) ≡ false → (r : Taken)
         → r .refusal ≡ 12 → Took plan bytes d lent r lent
     ready-12 lent small =
         took-12 plan bytes d (j .judged) (j .form) (j .bit) (j .goes-on) (j .sound) lent
         (by-plan (λ ts xs k w m o. le? (newSize ts xs k w m o bytes) (length lent) ≡ false) small)
 
-    pub ready-form-put : (lent : List ℕ) → le? (newSize thresholds allowances count delay n ones bytes) (length lent) ≡ true → (masses : ℕ)
-        → masses ≡ massesTo (newRecord thresholds allowances count delay n ones bytes) count → (b₁ b₂ : List ℕ)
-        → b₁ ≡ putAt headerSize (newEntries thresholds allowances count delay n ones bytes) lent
+    pub ready-form-put : (lent : List ℕ) → le? (newSize thresholds allowances count portion n ones bytes) (length lent) ≡ true → (masses : ℕ)
+        → masses ≡ massesTo (newRecord thresholds allowances count portion n ones bytes) count → (b₁ b₂ : List ℕ)
+        → b₁ ≡ putAt headerSize (newEntries thresholds allowances count portion n ones bytes) lent
         → b₂ ≡ putAt 0 (header count masses n ones) b₁
         → (r : Taken) → r .refusal ≡ 0
-        → Seen thresholds count (newRecord thresholds allowances count delay n ones bytes) (record { low = r .low; high = r .high; wide = r .wide })
+        → Seen thresholds count (newRecord thresholds allowances count portion n ones bytes) (record { low = r .low; high = r .high; wide = r .wide })
         → Took plan bytes d lent r b₂
     unfolding nextState
     ready-form-put lent large masses masses-are b₁ b₂ f g r none st =

@@ -10,7 +10,8 @@ use lib.ListN.{length, take, getD}
 use lib.Seq.{length-take-le}
 use Rattle.walk.specs.Numbers.{only, choose}
 use Rattle.walk.specs.Units.{million, wide}
-use Rattle.walk.specs.Spending.{spending}
+use Rattle.walk.specs.Spending.{portioned}
+use Rattle.walk.specs.declared.Portion.{Portion}
 use Rattle.walk.specs.Walk.{below}
 use Rattle.walk.specs.Row.{Row, upper, stepRow}
 use Rattle.walk.specs.Strings.{Upper, Lower, isOn}
@@ -137,18 +138,18 @@ seen-next thresholds records i s r t is h low high wides = record {
 
 -- ---- the thresholds that bytes hold
 
-module _ (thresholds allowances : List ℕ) (count delay n ones : ℕ) (bytes : List ℕ) (j : Turns thresholds allowances count delay n ones bytes) where
+module _ (thresholds allowances : List ℕ) (count : ℕ) (portion : Portion) (n ones : ℕ) (bytes : List ℕ) (j : Turns thresholds allowances count portion n ones bytes) where
   abbrev pub next : ℕ → Threshold
-  next = newRecord thresholds allowances count delay n ones bytes
+  next = newRecord thresholds allowances count portion n ones bytes
 
   abbrev pub parts : ℕ → List ℕ
-  parts = newPart thresholds allowances count delay n ones bytes
+  parts = newPart thresholds allowances count portion n ones bytes
 
   abbrev records : ℕ → List ℕ
-  records = newRecordBytes thresholds allowances count delay n ones bytes
+  records = newRecordBytes thresholds allowances count portion n ones bytes
 
   abbrev entry : ℕ → List ℕ
-  entry = newMassBytes thresholds allowances count delay n ones bytes
+  entry = newMassBytes thresholds allowances count portion n ones bytes
 
   abbrev pub offset : ℕ → ℕ
   offset i = recordOffset count + massSize * massesTo next i
@@ -161,7 +162,7 @@ module _ (thresholds allowances : List ℕ) (count delay n ones : ℕ) (bytes : 
     a = getD thresholds i 0
 
     abbrev e : ℕ
-    e = spending (getD allowances i 0) delay n
+    e = portioned portion (getD allowances i 0)
 
     -- the record t, with its masses, which stand at an offset, read into the front of a part that has room for one more
     module _ (t : Threshold) (is : t ≡ held) (at : ℕ) (here : at ≡ massOffset bytes count i) (part : List ℕ) (room : liveCount held < length part)
@@ -212,7 +213,7 @@ module _ (thresholds allowances : List ℕ) (count delay n ones : ℕ) (bytes : 
   pub new-few : (i : ℕ) → i ≤ count → massesTo next i ≤ wide * i
   new-few i h = masses-few next i (λ k l. grows k (omega arith) .0)
 
-  pub new-small : newSize thresholds allowances count delay n ones bytes ≤ formLimit
+  pub new-small : newSize thresholds allowances count portion n ones bytes ≤ formLimit
   unfolding formSize recordOffset wide
   new-small = omega (arith, j .few, new-few count (omega arith))
 
@@ -231,14 +232,14 @@ module _ (thresholds allowances : List ℕ) (count delay n ones : ℕ) (bytes : 
     new-masses = rw (add-one i, is-live)
 
     module _ (to : ℕ) (here : to ≡ offset i) where
-      pub new-inside : to + massSize * live ≤ newSize thresholds allowances count delay n ones bytes
+      pub new-inside : to + massSize * live ≤ newSize thresholds allowances count portion n ones bytes
       unfolding formSize
       new-inside = rw (here, is-live) (omega (arith, masses-within next count i l))
 
       -- the new masses go behind those of the thresholds before, and the record behind theirs
       pub entries-next : (q : List ℕ) → take (liveCount r) q ≡ take (liveCount r) (parts i) → (b b₁ b₂ : List ℕ)
           → b₁ ≡ putAt headerSize (joinTo i records) (putAt (recordOffset count) (joinTo i entry) b)
-          → b₂ ≡ putAt (headerSize + recordSize * i) (recordBytes r) (putAt to (massBytes live q) b₁) → newSize thresholds allowances count delay n ones bytes ≤ length b
+          → b₂ ≡ putAt (headerSize + recordSize * i) (recordBytes r) (putAt to (massBytes live q) b₁) → newSize thresholds allowances count portion n ones bytes ≤ length b
           → b₂ ≡ putAt headerSize (joinTo (i + 1) records) (putAt (recordOffset count) (joinTo (i + 1) entry) b)
       unfolding joinTo formSize recordOffset
       entries-next q same b b₁ b₂ f h long =
@@ -262,7 +263,7 @@ module _ (thresholds allowances : List ℕ) (count delay n ones : ℕ) (bytes : 
 
   -- at last, one behind the other
   pub entries-last : (b b₁ : List ℕ) → b₁ ≡ putAt headerSize (joinTo count records) (putAt (recordOffset count) (joinTo count entry) b)
-      → recordOffset count ≤ length b → b₁ ≡ putAt headerSize (newEntries thresholds allowances count delay n ones bytes) b
+      → recordOffset count ≤ length b → b₁ ≡ putAt headerSize (newEntries thresholds allowances count portion n ones bytes) b
   unfolding recordOffset
   entries-last b b₁ e long =
       let records-long : length (joinTo count records) ≡ recordSize * count = join-length records recordSize count (λ k l. record-length (next k)) in
@@ -275,6 +276,6 @@ module _ (thresholds allowances : List ℕ) (count delay n ones : ℕ) (bytes : 
   masses-grow zero h = omega arith
   masses-grow (suc k) h = omega (arith, masses-grow k (omega arith), grows k (omega arith) .1)
 
-  pub size-grows : newSize thresholds allowances count delay n ones bytes ≤ length bytes + massSize * count
+  pub size-grows : newSize thresholds allowances count portion n ones bytes ≤ length bytes + massSize * count
   unfolding formSize
   size-grows = omega (arith, j .form .sized, masses-grow count (omega arith))

@@ -3,20 +3,23 @@
 use mathlib.Core.Path.{_≡_}
 use mathlib.Core.Bool.{true, false}
 use mathlib.Core.List.{List, [], _∷_, _++_}
-use Prim.Native.Nat.{ℕ, _≤_, _<_}
+use Prim.Native.Nat.{ℕ, suc, _≤_, _<_}
 use lib.ListN.{getD}
 use Rattle.walk.specs.Numbers.{only, choose}
 use Rattle.walk.specs.Units.{million, allowanceLimit, horizonLimit}
-use Rattle.walk.specs.Spending.{spending}
+use Rattle.walk.specs.Spending.{portioned}
+use Rattle.walk.specs.declared.Portion.{Portion}
 use Rattle.walk.specs.Strings.{Upper, Lower, isOn}
 use Rattle.plan.specs.Places.{firstRefusal, anyTo, largestTo, smallestTo, joinTo}
 use Rattle.plan.specs.Plan.{countLimit, planRefusal}
+use Rattle.plan.specs.Tables.{portionOf}
 use Rattle.plan.specs.declared.Plan.{Plan}
 use Rattle.bucket_test.specs.Turn.{recordAt, wideOpen, turnRecord, turnPart, MayTurn}
 use Rattle.bucket_test.specs.Answers.{answerOf, isEnding}
 use Rattle.bucket_test.specs.Draw.{Outcome, stateSound, drawRefusal, drawn}
 use Rattle.bucket_test.specs.declared.Threshold.{Threshold}
-use Rattle.saved_test.specs.Form.{formSize, liveCount, massesTo, recordBytes, massBytes}
+use Rattle.little.specs.Little.{field}
+use Rattle.saved_test.specs.Form.{drawsField, formSize, liveCount, massesTo, recordBytes, massBytes}
 use Rattle.saved_test.specs.Reading.{recordIn, partIn, stateIn, wordsIn, formFits}
 use Rattle.saved_test.specs.Inner.{RecordsAndMasses}
 use Rattle.calls.specs.Calls.{roomRefusal, calledBy}
@@ -29,15 +32,15 @@ pub record Seen (thresholds : List ℕ) (count : ℕ) (records : ℕ → Thresho
   pub high : s .high ≡ smallestTo count (λ i. choose (isOn Lower (records i .mark)) (getD thresholds i 0) million) million
   pub wide : s .wide ≡ anyTo count (λ i. wideOpen (records i))
 
--- the turns at draw n of the thresholds that the bytes hold
-module _ (thresholds allowances : List ℕ) (count delay n ones : ℕ) (bytes : List ℕ) where
+-- the turns at draw n of the thresholds that the bytes hold, with such a portion of each allowance to spend
+module _ (thresholds allowances : List ℕ) (count : ℕ) (portion : Portion) (n ones : ℕ) (bytes : List ℕ) where
   abbrev pub newRecord : ℕ → Threshold
   newRecord i =
-      turnRecord (getD thresholds i 0) (spending (getD allowances i 0) delay n) n ones (recordIn bytes i .mark) (recordIn bytes i) (partIn bytes count i)
+      turnRecord (getD thresholds i 0) (portioned portion (getD allowances i 0)) n ones (recordIn bytes i .mark) (recordIn bytes i) (partIn bytes count i)
 
   abbrev pub newPart : ℕ → List ℕ
   newPart i =
-      turnPart (getD thresholds i 0) (spending (getD allowances i 0) delay n) n ones (recordIn bytes i .mark) (recordIn bytes i) (partIn bytes count i)
+      turnPart (getD thresholds i 0) (portioned portion (getD allowances i 0)) n ones (recordIn bytes i .mark) (recordIn bytes i) (partIn bytes count i)
 
   abbrev pub newRecordBytes : ℕ → List ℕ
   newRecordBytes i = recordBytes (newRecord i)
@@ -56,11 +59,11 @@ module _ (thresholds allowances : List ℕ) (count delay n ones : ℕ) (bytes : 
   pub record Turns : Type 0 where
     pub few : count ≤ countLimit
     pub allowed : (i : ℕ) → i < count → getD allowances i 0 ≤ allowanceLimit
-    pub delayed : 1 ≤ delay
+    pub spendable : (portion .parts ≤ million) × (1 ≤ portion .whole)
     pub early : n ≤ horizonLimit
     pub form : RecordsAndMasses count bytes
     pub may : (i : ℕ) → i < count
-        → MayTurn (getD thresholds i 0) (spending (getD allowances i 0) delay n) (recordIn bytes i .mark) (recordIn bytes i) (partIn bytes count i)
+        → MayTurn (getD thresholds i 0) (portioned portion (getD allowances i 0)) (recordIn bytes i .mark) (recordIn bytes i) (partIn bytes count i)
 
 -- a part of so many words holds the masses of any one of them and one more
 abbrev pub PartHoldsOneMore : ℕ → List ℕ → ℕ → Type 0
@@ -74,12 +77,12 @@ abbrev pub middle : ℕ
 middle = 128
 
 -- a draw that only 12 can refuse, under an accepted plan with these tables
-pub record Ready (thresholds allowances : List ℕ) (count delay : ℕ) (bytes : List ℕ) (d : ℕ) : Type 0 where
+pub record Ready (thresholds allowances : List ℕ) (count : ℕ) (portion : Portion) (bytes : List ℕ) (d : ℕ) : Type 0 where
   pub plan : Plan
   pub thresholds-are : plan .thresholds ≡ thresholds
   pub allowances-are : plan .allowances ≡ allowances
   pub count-is : plan .count ≡ count
-  pub delay-is : plan .delay ≡ delay
+  pub portion-is : portionOf plan (suc (field 4 drawsField bytes)) ≡ portion
   pub judged : planRefusal plan ≡ 0
   pub form : formFits plan bytes ≡ true
   pub bit : d ≤ 1

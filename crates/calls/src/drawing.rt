@@ -17,6 +17,7 @@ use saved_test::form::RECORD_SIZE;
 use saved_test::marks::live_count;
 use saved_test::reading::record_from;
 use saved_test::writing::write_header;
+use walk::Portion;
 use walk::WIDE;
 
 // Words of a part for thresholds with fewer masses each, in place of 769, so that a call on few masses does not set 769 words to zero.
@@ -29,14 +30,14 @@ fn take_with<'a>(
     thresholds: &'a [u32; COUNT_LIMIT],
     allowances: &'a [u64; COUNT_LIMIT],
     count: usize,
-    delay: u32,
+    portion: Portion,
     bytes: &[u8],
     d: u32,
     part: &mut [u64],
     lent: &mut [u8],
 ) -> Taken
-    requires { ⌜ Ready (now thresholds) (now allowances) count delay (now bytes) d × PartHoldsOneMore count (now bytes) (length (now part)) ⌝ }
-    ensures { λ r. ⌜ ((j : Ready (now (thresholds .entry)) (now (allowances .entry)) count delay (now (bytes .entry)) d)
+    requires { ⌜ Ready (now thresholds) (now allowances) count portion (now bytes) d × PartHoldsOneMore count (now bytes) (length (now part)) ⌝ }
+    ensures { λ r. ⌜ ((j : Ready (now (thresholds .entry)) (now (allowances .entry)) count portion (now (bytes .entry)) d)
         → Took (j .plan) (now (bytes .entry)) d (now (lent .entry)) r (now (lent .exit))) ⌝ }
 {
     let n = read_u32(bytes, DRAWS_FIELD) + 1;
@@ -45,7 +46,7 @@ fn take_with<'a>(
         thresholds,
         allowances,
         count,
-        delay,
+        portion,
         bytes,
         n,
         ones,
@@ -63,7 +64,7 @@ fn take_with<'a>(
         thresholds,
         allowances,
         count,
-        delay,
+        portion,
         bytes,
         n,
         ones,
@@ -86,13 +87,13 @@ fn take_in_short<'a>(
     thresholds: &'a [u32; COUNT_LIMIT],
     allowances: &'a [u64; COUNT_LIMIT],
     count: usize,
-    delay: u32,
+    portion: Portion,
     bytes: &[u8],
     d: u32,
     lent: &mut [u8],
 ) -> Taken
-    requires { ⌜ Ready (now thresholds) (now allowances) count delay (now bytes) d × PartHoldsOneMore count (now bytes) short ⌝ }
-    ensures { λ r. ⌜ ((j : Ready (now (thresholds .entry)) (now (allowances .entry)) count delay (now (bytes .entry)) d)
+    requires { ⌜ Ready (now thresholds) (now allowances) count portion (now bytes) d × PartHoldsOneMore count (now bytes) short ⌝ }
+    ensures { λ r. ⌜ ((j : Ready (now (thresholds .entry)) (now (allowances .entry)) count portion (now (bytes .entry)) d)
         → Took (j .plan) (now (bytes .entry)) d (now (lent .entry)) r (now (lent .exit))) ⌝ }
 {
     let mut part = [0u64; SHORT];
@@ -100,7 +101,7 @@ fn take_in_short<'a>(
         thresholds,
         allowances,
         count,
-        delay,
+        portion,
         bytes,
         d,
         &mut part,
@@ -113,13 +114,13 @@ fn take_in_middle<'a>(
     thresholds: &'a [u32; COUNT_LIMIT],
     allowances: &'a [u64; COUNT_LIMIT],
     count: usize,
-    delay: u32,
+    portion: Portion,
     bytes: &[u8],
     d: u32,
     lent: &mut [u8],
 ) -> Taken
-    requires { ⌜ Ready (now thresholds) (now allowances) count delay (now bytes) d × PartHoldsOneMore count (now bytes) middle ⌝ }
-    ensures { λ r. ⌜ ((j : Ready (now (thresholds .entry)) (now (allowances .entry)) count delay (now (bytes .entry)) d)
+    requires { ⌜ Ready (now thresholds) (now allowances) count portion (now bytes) d × PartHoldsOneMore count (now bytes) middle ⌝ }
+    ensures { λ r. ⌜ ((j : Ready (now (thresholds .entry)) (now (allowances .entry)) count portion (now (bytes .entry)) d)
         → Took (j .plan) (now (bytes .entry)) d (now (lent .entry)) r (now (lent .exit))) ⌝ }
 {
     let mut part = [0u64; MIDDLE];
@@ -127,7 +128,7 @@ fn take_in_middle<'a>(
         thresholds,
         allowances,
         count,
-        delay,
+        portion,
         bytes,
         d,
         &mut part,
@@ -140,13 +141,13 @@ fn take_in_any<'a>(
     thresholds: &'a [u32; COUNT_LIMIT],
     allowances: &'a [u64; COUNT_LIMIT],
     count: usize,
-    delay: u32,
+    portion: Portion,
     bytes: &[u8],
     d: u32,
     lent: &mut [u8],
 ) -> Taken
-    requires { ⌜ Ready (now thresholds) (now allowances) count delay (now bytes) d ⌝ }
-    ensures { λ r. ⌜ ((j : Ready (now (thresholds .entry)) (now (allowances .entry)) count delay (now (bytes .entry)) d)
+    requires { ⌜ Ready (now thresholds) (now allowances) count portion (now bytes) d ⌝ }
+    ensures { λ r. ⌜ ((j : Ready (now (thresholds .entry)) (now (allowances .entry)) count portion (now (bytes .entry)) d)
         → Took (j .plan) (now (bytes .entry)) d (now (lent .entry)) r (now (lent .exit))) ⌝ }
 {
     let mut part = [0u64; WIDE];
@@ -154,7 +155,7 @@ fn take_in_any<'a>(
         thresholds,
         allowances,
         count,
-        delay,
+        portion,
         bytes,
         d,
         &mut part,
@@ -182,21 +183,21 @@ pub(crate) fn take_in<'a>(
     thresholds: &'a [u32; COUNT_LIMIT],
     allowances: &'a [u64; COUNT_LIMIT],
     count: usize,
-    delay: u32,
+    portion: Portion,
     bytes: &[u8],
     d: u32,
     lent: &mut [u8],
 ) -> Taken
-    requires { ⌜ Ready (now thresholds) (now allowances) count delay (now bytes) d ⌝ }
-    ensures { λ r. ⌜ ((j : Ready (now (thresholds .entry)) (now (allowances .entry)) count delay (now (bytes .entry)) d)
+    requires { ⌜ Ready (now thresholds) (now allowances) count portion (now bytes) d ⌝ }
+    ensures { λ r. ⌜ ((j : Ready (now (thresholds .entry)) (now (allowances .entry)) count portion (now (bytes .entry)) d)
         → Took (j .plan) (now (bytes .entry)) d (now (lent .entry)) r (now (lent .exit))) ⌝ }
 {
     let most = most_masses(bytes, count);
     if most < SHORT {
-        return take_in_short(thresholds, allowances, count, delay, bytes, d, lent);
+        return take_in_short(thresholds, allowances, count, portion, bytes, d, lent);
     }
     if most < MIDDLE {
-        return take_in_middle(thresholds, allowances, count, delay, bytes, d, lent);
+        return take_in_middle(thresholds, allowances, count, portion, bytes, d, lent);
     }
-    take_in_any(thresholds, allowances, count, delay, bytes, d, lent)
+    take_in_any(thresholds, allowances, count, portion, bytes, d, lent)
 }

@@ -12,6 +12,7 @@ use drawing::take_in;
 use little::numbers::read_u32;
 use plan::BUCKET_LIMIT;
 use plan::COUNT_LIMIT;
+use plan::spending::portion_by_delay;
 use saved_test::form::DRAWS_FIELD;
 use saved_test::reading::form_fits;
 use saved_test::reading::state_sound_in;
@@ -91,10 +92,13 @@ fn draw_on<'a>(
     if has_ended(thresholds, left, right, count, buckets, n == horizon, saved) {
         return 10;
     }
-    if !state_sound_in(allowances, count, head.delay, horizon, saved) {
+    // A stored plan has no points.
+    let portion = portion_by_delay(head.delay, n);
+    if !state_sound_in(allowances, count, portion, horizon, saved) {
         return 11;
     }
-    let taken = take_in(thresholds, allowances, count, head.delay, saved, draw, lent);
+    let next = portion_by_delay(head.delay, n + 1);
+    let taken = take_in(thresholds, allowances, count, next, saved, draw, lent);
     if taken.refusal != 0 {
         return taken.refusal;
     }

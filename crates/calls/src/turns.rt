@@ -25,6 +25,7 @@ use saved_test::reading::front_in;
 use saved_test::reading::record_from;
 use saved_test::writing::write_part;
 use saved_test::writing::write_record;
+use walk::Portion;
 use walk::spending::spending_at;
 
 // The turn at draw n of a threshold whose masses stand at an offset: its record, and its new masses at the front of the part.
@@ -80,7 +81,7 @@ pub(crate) fn turn_through<'a>(
     thresholds: &'a [u32; COUNT_LIMIT],
     allowances: &'a [u64; COUNT_LIMIT],
     count: usize,
-    delay: u32,
+    portion: Portion,
     bytes: &[u8],
     n: u32,
     ones: u32,
@@ -88,13 +89,13 @@ pub(crate) fn turn_through<'a>(
     writes: bool,
     lent: &mut [u8],
 ) -> Turned
-    requires { ⌜ Turns (now thresholds) (now allowances) count delay n ones (now bytes) × PartHoldsOneMore count (now bytes) (length (now part))
-        × (writes ≡ true → newSize (now thresholds) (now allowances) count delay n ones (now bytes) ≤ length (now lent)) ⌝ }
+    requires { ⌜ Turns (now thresholds) (now allowances) count portion n ones (now bytes) × PartHoldsOneMore count (now bytes) (length (now part))
+        × (writes ≡ true → newSize (now thresholds) (now allowances) count portion n ones (now bytes) ≤ length (now lent)) ⌝ }
     ensures { λ r. ⌜
-        (r .masses ≡ massesTo (newRecord (now (thresholds .entry)) (now (allowances .entry)) count delay n ones (now (bytes .entry))) count)
-        × Seen (now (thresholds .entry)) count (newRecord (now (thresholds .entry)) (now (allowances .entry)) count delay n ones (now (bytes .entry))) (r .standing)
+        (r .masses ≡ massesTo (newRecord (now (thresholds .entry)) (now (allowances .entry)) count portion n ones (now (bytes .entry))) count)
+        × Seen (now (thresholds .entry)) count (newRecord (now (thresholds .entry)) (now (allowances .entry)) count portion n ones (now (bytes .entry))) (r .standing)
         × (writes ≡ true → now (lent .exit)
-        ≡ putAt headerSize (newEntries (now (thresholds .entry)) (now (allowances .entry)) count delay n ones (now (bytes .entry))) (now (lent .entry)))
+        ≡ putAt headerSize (newEntries (now (thresholds .entry)) (now (allowances .entry)) count portion n ones (now (bytes .entry))) (now (lent .entry)))
         × (writes ≡ false → now (lent .exit) ≡ now (lent .entry))
         ⌝ }
 {
@@ -104,7 +105,7 @@ pub(crate) fn turn_through<'a>(
     let mut standing = unseen();
     for i in 0..count {
         let t = record_from(bytes, HEADER_SIZE + RECORD_SIZE * i);
-        let e = spending_at(allowances[i], delay, n);
+        let e = spending_at(allowances[i], portion);
         let next = turn_at(bytes, at, t, thresholds[i], e, n, ones, part);
         let live = live_count(next);
         let to = front + MASS_SIZE * masses;
@@ -121,16 +122,16 @@ pub(crate) fn has_room<'a>(
     thresholds: &'a [u32; COUNT_LIMIT],
     allowances: &'a [u64; COUNT_LIMIT],
     count: usize,
-    delay: u32,
+    portion: Portion,
     bytes: &[u8],
     n: u32,
     ones: u32,
     part: &mut [u64],
     lent: &mut [u8],
 ) -> bool
-    requires { ⌜ Turns (now thresholds) (now allowances) count delay n ones (now bytes) × PartHoldsOneMore count (now bytes) (length (now part)) ⌝ }
+    requires { ⌜ Turns (now thresholds) (now allowances) count portion n ones (now bytes) × PartHoldsOneMore count (now bytes) (length (now part)) ⌝ }
     ensures { λ r. ⌜
-        (r ≡ le? (newSize (now (thresholds .entry)) (now (allowances .entry)) count delay n ones (now (bytes .entry))) (length (now (lent .entry))))
+        (r ≡ le? (newSize (now (thresholds .entry)) (now (allowances .entry)) count portion n ones (now (bytes .entry))) (length (now (lent .entry))))
         × (now (lent .exit) ≡ now (lent .entry))
         ⌝ }
 {
@@ -141,7 +142,7 @@ pub(crate) fn has_room<'a>(
         thresholds,
         allowances,
         count,
-        delay,
+        portion,
         bytes,
         n,
         ones,

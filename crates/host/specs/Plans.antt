@@ -9,10 +9,13 @@ planIn p = record {
   buckets = p .buckets;
   delay = p .delay;
   horizon = p .horizon;
+  points = p .points;
   thresholds = p .thresholds;
   allowances = p .allowances;
   left = p .left;
   right = p .right;
+  steps = p .steps;
+  shares = p .shares;
 }
 
 abbrev pub planOut : ℕ → Plan → HostPlan
@@ -22,8 +25,11 @@ planOut refusal p = record {
   buckets = p .buckets;
   delay = p .delay;
   horizon = p .horizon;
+  points = p .points;
   thresholds = p .thresholds;
   allowances = p .allowances;
   left = p .left;
   right = p .right;
+  steps = p .steps;
+  shares = p .shares;
 }

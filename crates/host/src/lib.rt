@@ -10,6 +10,7 @@ use bucket_test::drawing::draw;
 use bucket_test::drawing::report_on;
 use plan::BUCKET_LIMIT;
 use plan::COUNT_LIMIT;
+use plan::POINT_LIMIT;
 use plan::rules::plan_refusal;
 use plans::plan_in;
 use plans::plan_out;
@@ -39,10 +40,13 @@ pub struct HostPlan {
     pub buckets: u32,
     pub delay: u32,
     pub horizon: u32,
+    pub points: u32,
     pub thresholds: [u32; COUNT_LIMIT],
     pub allowances: [u64; COUNT_LIMIT],
     pub left: [u32; BUCKET_LIMIT],
     pub right: [u32; BUCKET_LIMIT],
+    pub steps: [u32; POINT_LIMIT],
+    pub shares: [u32; POINT_LIMIT],
 }
 
 // A record. Its mark is 0 open, 1 above, 2 at most, at a step.

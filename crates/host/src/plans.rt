@@ -12,15 +12,20 @@ pub(crate) fn plan_in(p: HostPlan) -> Plan
     let allowances = p.allowances;
     let left = p.left;
     let right = p.right;
+    let steps = p.steps;
+    let shares = p.shares;
     Plan {
         count: p.count,
         buckets: p.buckets,
         delay: p.delay,
         horizon: p.horizon,
+        points: p.points,
         thresholds,
         allowances,
         left,
         right,
+        steps,
+        shares,
     }
 }
 
@@ -31,15 +36,20 @@ pub(crate) fn plan_out(refusal: u32, plan: Plan) -> HostPlan
     let allowances = plan.allowances;
     let left = plan.left;
     let right = plan.right;
+    let steps = plan.steps;
+    let shares = plan.shares;
     HostPlan {
         refusal,
         count: plan.count,
         buckets: plan.buckets,
         delay: plan.delay,
         horizon: plan.horizon,
+        points: plan.points,
         thresholds,
         allowances,
         left,
         right,
+        steps,
+        shares,
     }
 }

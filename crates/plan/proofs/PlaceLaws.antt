@@ -47,6 +47,11 @@ pub neither : {A : Type 0} (x : Bool) → (x ≡ true) ↔ A → (not x ≡ true
 neither true a = (λ e. clash (sym e), λ f. absurd (f (a .0 refl)))
 neither false a = (λ e h. clash (sym (a .1 h)), λ f. refl)
 
+-- a test fails where what it says is not so
+pub fails-by : {A : Type 0} (x : Bool) → (x ≡ true) ↔ A → ¬ A → x ≡ false
+fails-by true a f = absurd (f (a .0 refl))
+fails-by false a f = refl
+
 -- ---- m ≤ n, m = n, from lo to hi
 
 pub le-or-lt : (m n : ℕ) → (m ≤ n) ⊎ (n < m)
@@ -260,3 +265,8 @@ pub number-later : {B : Type 0} (b : Bool) (r s : ℕ) (rs : List ℕ) → ¬ (s
     → (firstRefusal (unless b (suc r) ∷ rs) ≡ s) ↔ ((b ≡ true) × B)
 number-later true r s rs other y = (λ e. (refl, y .0 e), λ h. y .1 (h .1))
 number-later false r s rs other y = (λ e. absurd (other e), λ h. clash (sym (h .0)))
+
+-- .. and past a refusal of another number where that is none
+pub number-after : {B : Type 0} (r s : ℕ) (rs : List ℕ) → ¬ (r ≡ s) → (firstRefusal rs ≡ s) ↔ B → (firstRefusal (r ∷ rs) ≡ s) ↔ ((r ≡ 0) × B)
+number-after zero s rs other y = (λ e. (refl, y .0 e), λ h. y .1 (h .1))
+number-after (suc r) s rs other y = (λ e. absurd (other e), λ h. absurd (omega (arith, h .0)))

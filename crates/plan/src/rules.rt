@@ -1,15 +1,16 @@
-// The plan's rules: refusals 1, 2, 14, 3, 4, 5, 6 in this order, each over all entries before the next (rules 1.4, 8.2).
+// The plan's rules: refusals 1, 2, 14, 3, 4, 16, 5, 6 in this order, each over all entries before the next (rules 1.4, 8.2).
 ghost use mathlib.Core.Path.{_≡_};
 ghost use mathlib.Core.List.{[], _∷_};
 ghost use Prim.Native.Nat.{ℕ, suc, _≤_, _<_};
 ghost use lib.ListN.{length, getD};
 ghost use Rattle.plan.specs.Places.{eq?, within, allTo, anyTo, unless, firstRefusal};
-ghost use Rattle.plan.specs.Plan.{countLimit, bucketLimit, countsFit, leftAt, rightAt, rule2, rule14, rule3, rule4, permitted, bucketFits, rule5, coveredAbove, rule6, planRefusal};
+ghost use Rattle.plan.specs.Plan.{countLimit, bucketLimit, countsFit, leftAt, rightAt, rule2, rule14, rule3, rule4, rule16, permitted, bucketFits, rule5, coveredAbove, rule6, planRefusal};
 ghost use Rattle.plan.specs.Tables.{planWith};
 use crate::BUCKET_LIMIT;
 use crate::COUNT_LIMIT;
 use crate::DELAY_LIMIT;
 use crate::LEAST_DIFFERENCE;
+use crate::POINT_LIMIT;
 use crate::Plan;
 use crate::THRESHOLD_LIMIT;
 use walk::ALLOWANCE_LIMIT;
@@ -20,6 +21,8 @@ use walk::MILLION;
 const MOST_THRESHOLDS: u32 = COUNT_LIMIT as u32;
 
 const MOST_BUCKETS: u32 = BUCKET_LIMIT as u32;
+
+const MOST_POINTS: u32 = POINT_LIMIT as u32;
 
 // From lo to hi, both included.
 pub fn within(x: u32, lo: u32, hi: u32) -> bool
@@ -94,6 +97,43 @@ fn times_fit(delay: u32, horizon: u32) -> bool
     ensures { λ r. ⌜ ((p : Plan) → p .delay ≡ delay → p .horizon ≡ horizon → r ≡ rule4 p) ⌝ }
 {
     within(delay, 1, DELAY_LIMIT) && within(horizon, 1, HORIZON_LIMIT)
+}
+
+// Rule 16 of a plan with this horizon and the first `points` of these points, of any number: at most eight, their steps strictly rising within 1 to
+// the horizon, their shares never falling and at most 1,000,000.
+fn points_fit<'a>(
+    points: u32,
+    horizon: u32,
+    steps: &'a [u32; POINT_LIMIT],
+    shares: &'a [u32; POINT_LIMIT],
+) -> bool
+    ensures { λ r. ⌜ ((p : Plan) → p .points ≡ points → p .horizon ≡ horizon → p .steps ≡ now (steps .entry) → p .shares ≡ now (shares .entry) → r ≡ rule16 p) ⌝ }
+{
+    if MOST_POINTS < points {
+        return false;
+    }
+    let count = points as usize;
+    let mut step = 0u32;
+    let mut share = 0u32;
+    for j in 0..count {
+        let next = steps[j];
+        let more = shares[j];
+        if next <= step {
+            return false;
+        }
+        if horizon < next {
+            return false;
+        }
+        if more < share {
+            return false;
+        }
+        if MILLION < more {
+            return false;
+        }
+        step = next;
+        share = more;
+    }
+    true
 }
 
 // Whether x is one of the first n numbers of a table.
@@ -231,12 +271,16 @@ pub fn tables_refusal<'a>(
     buckets: u32,
     delay: u32,
     horizon: u32,
+    points: u32,
     thresholds: &'a [u32; COUNT_LIMIT],
     allowances: &'a [u64; COUNT_LIMIT],
     left: &'a [u32; BUCKET_LIMIT],
     right: &'a [u32; BUCKET_LIMIT],
+    steps: &'a [u32; POINT_LIMIT],
+    shares: &'a [u32; POINT_LIMIT],
 ) -> u32
-    ensures { λ r. ⌜ r ≡ planRefusal (planWith count buckets delay horizon (now (thresholds .entry)) (now (allowances .entry)) (now (left .entry)) (now (right .entry))) ⌝ }
+    ensures { λ r. ⌜ r ≡ planRefusal (planWith count buckets delay horizon points (now (thresholds .entry)) (now (allowances .entry)) (now (left .entry)) (now (right .entry))
+        (now (steps .entry)) (now (shares .entry))) ⌝ }
 {
     if !counts_fit(count, buckets) {
         return 1;
@@ -254,6 +298,9 @@ pub fn tables_refusal<'a>(
     if !times_fit(delay, horizon) {
         return 4;
     }
+    if !points_fit(points, horizon, steps, shares) {
+        return 16;
+    }
     buckets_refusal(thresholds, k, left, right, buckets as usize)
 }
 
@@ -266,9 +313,12 @@ pub fn plan_refusal(p: Plan) -> u32
         p.buckets,
         p.delay,
         p.horizon,
+        p.points,
         &p.thresholds,
         &p.allowances,
         &p.left,
         &p.right,
+        &p.steps,
+        &p.shares,
     )
 }

@@ -10,10 +10,10 @@ use Rattle.walk.specs.Units.{wide}
 use Rattle.walk.specs.declared.Walked.{Walked}
 use Rattle.walk.proofs.Tests.{clash}
 use Rattle.plan.specs.Places.{unless, firstRefusal}
-use Rattle.plan.specs.Plan.{rule1, rule2, rule14, rule3, rule4, rule5, rule6, planRefusal}
+use Rattle.plan.specs.Plan.{planRefusal}
 use Rattle.plan.specs.declared.Plan.{Plan}
-use Rattle.plan.proofs.PlaceLaws.{both, either, eq-reads, all-say, within-reads, first-some, none-both, none-says, last-says, number-absent, number-here}
-use Rattle.plan.proofs.AcceptedLaws.{from2, from14, from3, from4, from5, from6}
+use Rattle.plan.proofs.PlaceLaws.{both, either, eq-reads, all-say, within-reads, first-some, none-both, none-says, last-says, number-absent, number-here, number-after}
+use Rattle.plan.proofs.AcceptedLaws.{plan-other}
 use Rattle.bucket_test.specs.Words.{wordsFit}
 use Rattle.bucket_test.specs.Draw.{stateSound}
 use Rattle.bucket_test.proofs.PartLaws.{words-say}
@@ -74,23 +74,7 @@ older p bytes h = go (formFits p bytes) refl
 
 -- ---- the refusals in their order
 
--- a plan's refusal is no number of a reading's own
-plan-other : (p : Plan) (s : ℕ) → 6 < s → ¬ (14 ≡ s) → ¬ (planRefusal p ≡ s)
-unfolding planRefusal
-plan-other p s l n =
-    number-absent (rule1 p) 0 s (from2 p) (λ e. omega arith)
-    (number-absent (rule2 p) 1 s (from14 p) (λ e. omega arith)
-    (number-absent (rule14 p) 13 s (from3 p) n
-    (number-absent (rule3 p) 2 s (from4 p) (λ e. omega arith)
-    (number-absent (rule4 p) 3 s (from5 p) (λ e. omega arith)
-    (number-absent (rule5 p) 4 s (from6 p) (λ e. omega arith)
-    (number-absent (rule6 p) 5 s [] (λ e. omega arith) (λ e. omega arith)))))))
-
--- it is s: past a plan's refusal, which is another number; past a rule of another number; by the rule of that number
-after-plan : {B : Type 0} (r s : ℕ) (rs : List ℕ) → ¬ (r ≡ s) → (firstRefusal rs ≡ s) ↔ B → (firstRefusal (r ∷ rs) ≡ s) ↔ ((r ≡ 0) × B)
-after-plan zero s rs other y = (λ e. (refl, y .0 e), λ h. y .1 (h .1))
-after-plan (suc r) s rs other y = (λ e. absurd (other e), λ h. absurd (omega (arith, h .0)))
-
+-- past a rule of another number; by the rule of that number
 after-rule : {A B : Type 0} (b : Bool) (r s : ℕ) (rs : List ℕ) → ¬ (suc r ≡ s) → (b ≡ true) ↔ A → (firstRefusal rs ≡ s) ↔ B
     → (firstRefusal (unless b (suc r) ∷ rs) ≡ s) ↔ (A × B)
 after-rule true r s rs other x y = (λ e. (x .0 refl, y .0 e), λ h. y .1 (h .1))
@@ -112,17 +96,17 @@ read-refusal p bytes words =
     record {
       by-plan = first-some (planRefusal p) from8;
       by-8 =
-          after-plan (planRefusal p) 8 from8 (plan-other p 8 (omega arith) (λ e. omega arith))
+          number-after (planRefusal p) 8 from8 (plan-other p 8 (omega arith) (λ e. omega arith) (λ e. omega arith))
           (number-here right 7 from15 (words-say p words)
           (number-absent fits 14 8 from11 (λ e. omega arith)
           (number-absent sound 10 8 [] (λ e. omega arith) (λ e. omega arith))));
       by-15 =
-          after-plan (planRefusal p) 15 from8 (plan-other p 15 (omega arith) (λ e. omega arith))
+          number-after (planRefusal p) 15 from8 (plan-other p 15 (omega arith) (λ e. omega arith) (λ e. omega arith))
           (after-rule right 7 15 from15 (λ e. omega arith) (words-say p words)
           (at-rule fits 14 from11
           (number-absent sound 10 15 [] (λ e. omega arith) (λ e. omega arith))));
       by-11 =
-          after-plan (planRefusal p) 11 from8 (plan-other p 11 (omega arith) (λ e. omega arith))
+          number-after (planRefusal p) 11 from8 (plan-other p 11 (omega arith) (λ e. omega arith) (λ e. omega arith))
           (after-rule right 7 11 from15 (λ e. omega arith) (words-say p words)
           (after-rule fits 14 11 from11 (λ e. omega arith) (same fits)
           (at-rule sound 10 [] (λ e. omega arith))));

@@ -21,10 +21,13 @@ planOfTwo = record {
   buckets = 3;
   delay = 1;
   horizon = 200;
+  points = 0;
   thresholds = 100000 ∷ 400000 ∷ replicate 8 0;
   allowances = 2199023255551 ∷ 2199023255551 ∷ replicate 8 0;
   left = 0 ∷ 100000 ∷ 400000 ∷ replicate 13 0;
   right = 100000 ∷ 400000 ∷ 1000000 ∷ replicate 13 0;
+  steps = replicate 8 0;
+  shares = replicate 8 0;
 }
 
 -- the test after these draws, latest first, and its form

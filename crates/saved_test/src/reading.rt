@@ -4,16 +4,17 @@ ghost use mathlib.Core.Bool.{_&&_};
 ghost use mathlib.Core.List.{[], _∷_};
 ghost use Prim.Native.Nat.{ℕ, _+_, _*_, _^_, _≤_, _<_};
 ghost use lib.ListN.{length, getD, replicate};
-ghost use Rattle.walk.specs.Units.{wide, allowanceLimit, horizonLimit};
-ghost use Rattle.walk.specs.Spending.{spending};
+ghost use Rattle.walk.specs.Units.{million, wide, allowanceLimit, horizonLimit};
+ghost use Rattle.walk.specs.Spending.{portioned};
 ghost use Rattle.walk.specs.Weighing.{Weighs};
 ghost use Rattle.plan.specs.Places.{eq?, allTo, unless, firstRefusal, overTo, joinTo};
 ghost use Rattle.plan.specs.Plan.{countLimit, planRefusal};
+ghost use Rattle.plan.specs.Tables.{portionOf};
 ghost use Rattle.bucket_test.specs.Turn.{startRecord, recordSound};
 ghost use Rattle.bucket_test.specs.Draw.{stateSound, noState};
 ghost use Rattle.little.specs.Little.{field, column, filled};
 ghost use Rattle.saved_test.specs.Form.{headerSize, countField, massesField, recordOffsetField, massOffsetField, sizeField, recordSizeField, massSizeField};
-ghost use Rattle.saved_test.specs.Form.{recordSize, stepField, massSize, liveCount, massesTo};
+ghost use Rattle.saved_test.specs.Form.{drawsField, recordSize, stepField, massSize, liveCount, massesTo};
 ghost use Rattle.saved_test.specs.Reading.{markKnown, countFits, recordFrom, recordIn, recordFits, partIn, stateIn, wordsIn, formFits, loaded, wordsAfter};
 ghost use Rattle.saved_test.specs.Inner.{RecordsAndMasses};
 use crate::Loaded;
@@ -52,7 +53,9 @@ use little::tables::long_fields_in;
 use plan::COUNT_LIMIT;
 use plan::Plan;
 use plan::rules::plan_refusal;
+use plan::spending::portion_at;
 use walk::Mark;
+use walk::Portion;
 use walk::WIDE;
 use walk::Walked;
 use walk::Weighed;
@@ -278,24 +281,24 @@ fn record_sound_in(bytes: &[u8], at: usize, t: Threshold, e: u64, n: u32, ones: 
     }
 }
 
-// Whether each of the thresholds that the bytes hold passes refusal 11, where the form fits.
+// Whether each of the thresholds that the bytes hold passes refusal 11, where the form fits, with such a portion of each allowance to spend.
 fn parts_sound(
     allowances: &[u64; COUNT_LIMIT],
     count: usize,
-    delay: u32,
+    portion: Portion,
     bytes: &[u8],
     n: u32,
     ones: u32,
 ) -> bool
-    requires { ⌜ (count ≤ countLimit) × ((i : ℕ) → i < count → getD (now allowances) i 0 ≤ allowanceLimit) × (1 ≤ delay) × (n ≤ horizonLimit)
+    requires { ⌜ (count ≤ countLimit) × ((i : ℕ) → i < count → getD (now allowances) i 0 ≤ allowanceLimit) × (portion .parts ≤ million) × (1 ≤ portion .whole)
         × RecordsAndMasses count (now bytes) ⌝ }
-    ensures { λ r. ⌜ r ≡ allTo count (λ i. recordSound (spending (getD (now (allowances .entry)) i 0) delay n) n ones
+    ensures { λ r. ⌜ r ≡ allTo count (λ i. recordSound (portioned portion (getD (now (allowances .entry)) i 0)) n ones
         (recordIn (now (bytes .entry)) i .mark) (recordIn (now (bytes .entry)) i) (partIn (now (bytes .entry)) count i)) ⌝ }
 {
     let mut at = HEADER_SIZE + RECORD_SIZE * count;
     for i in 0..count {
         let t = record_from(bytes, HEADER_SIZE + RECORD_SIZE * i);
-        let e = spending_at(allowances[i], delay, n);
+        let e = spending_at(allowances[i], portion);
         if !record_sound_in(bytes, at, t, e, n, ones) {
             return false;
         }
@@ -304,17 +307,20 @@ fn parts_sound(
     true
 }
 
-// Refusal 11 of the test that the bytes hold, where the form fits, under a plan with these allowances, of at most ten.
+// Refusal 11 of the test that the bytes hold, where the form fits, under a plan with these allowances, of at most ten, and this portion of each to
+// spend after the draws that the bytes tell.
 pub fn state_sound_in(
     allowances: &[u64; COUNT_LIMIT],
     count: usize,
-    delay: u32,
+    portion: Portion,
     horizon: u32,
     bytes: &[u8],
 ) -> bool
-    requires { ⌜ (count ≤ countLimit) × ((i : ℕ) → i < count → getD (now allowances) i 0 ≤ allowanceLimit) × (1 ≤ delay) × (horizon ≤ horizonLimit)
+    requires { ⌜ (count ≤ countLimit) × ((i : ℕ) → i < count → getD (now allowances) i 0 ≤ allowanceLimit)
+        × (field 4 drawsField (now bytes) ≤ horizonLimit → (portion .parts ≤ million) × (1 ≤ portion .whole)) × (horizon ≤ horizonLimit)
         × RecordsAndMasses count (now bytes) ⌝ }
-    ensures { λ r. ⌜ ((p : Plan) → p .count ≡ count → p .allowances ≡ now (allowances .entry) → p .delay ≡ delay → p .horizon ≡ horizon
+    ensures { λ r. ⌜ ((p : Plan) → p .count ≡ count → p .allowances ≡ now (allowances .entry) → portionOf p (field 4 drawsField (now (bytes .entry))) ≡ portion
+        → p .horizon ≡ horizon
         → r ≡ stateSound p (stateIn p (now (bytes .entry))) (wordsIn p (now (bytes .entry)))) ⌝ }
 {
     let n = read_u32(bytes, DRAWS_FIELD);
@@ -325,7 +331,7 @@ pub fn state_sound_in(
     if ones > n {
         return false;
     }
-    parts_sound(allowances, count, delay, bytes, n, ones)
+    parts_sound(allowances, count, portion, bytes, n, ones)
 }
 
 // The first refusal of a reading into so many words before the test is judged: plan, 8, 15.
@@ -368,7 +374,9 @@ pub fn read_test(p: Plan, bytes: &[u8], words: &mut [u64]) -> Loaded
         return refused(bad);
     }
     let count = p.count as usize;
-    if !state_sound_in(&p.allowances, count, p.delay, p.horizon, bytes) {
+    let n = read_u32(bytes, DRAWS_FIELD);
+    let portion = portion_at(p.delay, p.points, &p.steps, &p.shares, n);
+    if !state_sound_in(&p.allowances, count, portion, p.horizon, bytes) {
         return refused(11);
     }
     let state = state_in(p, bytes);

@@ -1,11 +1,12 @@
--- An accepted plan's form is read back: the plan with zeros past its counts.
+-- The form of an accepted plan without points is read back: the plan with zeros past its counts.
 use mathlib.Core.Path.{_≡_, refl, _∙_}
-use mathlib.Core.List.{[], _++_, append-assoc, append-nil}
+use mathlib.Core.List.{List, [], _++_, append-assoc, append-nil}
 use Prim.Native.Nat.{ℕ, _+_, _*_, _≤_, _<_}
 use native.Mathlib.Omega.{arith}
 use lib.ListN.{replicate}
 use Rattle.walk.specs.Units.{million, allowanceLimit, horizonLimit}
-use Rattle.plan.specs.Plan.{countLimit, bucketLimit, thresholdAt, allowanceAt, leftAt, rightAt, Accepted}
+use Rattle.plan.specs.Places.{overTo}
+use Rattle.plan.specs.Plan.{countLimit, bucketLimit, pointLimit, thresholdAt, allowanceAt, leftAt, rightAt, stepAt, shareAt, Accepted}
 use Rattle.plan.specs.declared.Plan.{Plan}
 use Rattle.plan.proofs.AcceptedLaws.{accepted, permitted-le}
 use Rattle.plan.proofs.SameCountedLaws.{same-rules}
@@ -28,36 +29,48 @@ counted p = record {
   buckets = p .buckets;
   delay = p .delay;
   horizon = p .horizon;
+  points = p .points;
   thresholds = filled (p .count) (thresholdAt p) (replicate countLimit 0);
   allowances = filled (p .count) (allowanceAt p) (replicate countLimit 0);
   left = filled (p .buckets) (leftAt p) (replicate bucketLimit 0);
   right = filled (p .buckets) (rightAt p) (replicate bucketLimit 0);
+  steps = filled (p .points) (stepAt p) (replicate pointLimit 0);
+  shares = filled (p .points) (shareAt p) (replicate pointLimit 0);
 }
 
 -- ---- it is the same plan
 
-pub same : (p : Plan) → p .count ≤ countLimit → p .buckets ≤ bucketLimit → SamePlan p (counted p)
+pub same : (p : Plan) → p .count ≤ countLimit → p .buckets ≤ bucketLimit → p .points ≤ pointLimit → SamePlan p (counted p)
 unfolding counted
-same p k b = record {
+same p k b c = record {
   counted-same = record {
-    counts = (refl, refl);
+    counts = (refl, refl, refl);
     times = (refl, refl);
     entries = λ i l. (filled-get countLimit (p .count) (thresholdAt p) k i l, filled-get countLimit (p .count) (allowanceAt p) k i l);
     ends = λ j l. (filled-get bucketLimit (p .buckets) (leftAt p) b j l, filled-get bucketLimit (p .buckets) (rightAt p) b j l);
+    points = λ j l. (filled-get pointLimit (p .points) (stepAt p) c j l, filled-get pointLimit (p .points) (shareAt p) c j l);
   };
   entries-past = λ i l. (filled-past countLimit (p .count) (thresholdAt p) i l, filled-past countLimit (p .count) (allowanceAt p) i l);
   ends-past = λ j l. (filled-past bucketLimit (p .buckets) (leftAt p) j l, filled-past bucketLimit (p .buckets) (rightAt p) j l);
+  points-past = λ j l. (filled-past pointLimit (p .points) (stepAt p) j l, filled-past pointLimit (p .points) (shareAt p) j l);
   places = (
     filled-length countLimit (p .count) (thresholdAt p),
     filled-length countLimit (p .count) (allowanceAt p),
     filled-length bucketLimit (p .buckets) (leftAt p),
     filled-length bucketLimit (p .buckets) (rightAt p),
+    filled-length pointLimit (p .points) (stepAt p),
+    filled-length pointLimit (p .points) (shareAt p),
   );
 }
 
--- ---- the form of an accepted plan, field by field
+-- a table of which nothing is counted
+filled-none : (f : ℕ → ℕ) (xs : List ℕ) → filled 0 f xs ≡ xs
+unfolding filled overTo
+filled-none f xs = refl
 
-module _ (p : Plan) (a : Accepted p) where
+-- ---- the form of an accepted plan without points, field by field
+
+module _ (p : Plan) (a : Accepted p) (none : p .points ≡ 0) where
   -- the fields of the header, one behind the other
   unrolled : encoded p
       ≡ toLE 2 (p .count) ++ (toLE 2 (p .buckets) ++ (toLE 2 headerSize ++ (toLE 2 (bucketOffset (p .count))
@@ -151,12 +164,15 @@ module _ (p : Plan) (a : Accepted p) where
         filled-cong (p .count) _ (allowanceAt p) (replicate countLimit 0) in-allowance,
         filled-cong (p .buckets) _ (leftAt p) (replicate bucketLimit 0) in-left,
         filled-cong (p .buckets) _ (rightAt p) (replicate bucketLimit 0) in-right,
+        none,
+        filled-none (stepAt p) (replicate pointLimit 0),
+        filled-none (shareAt p) (replicate pointLimit 0),
       )
 
   pub form-read : readRefusal (encoded p) ≡ 0
   unfolding countIn bucketsIn
   form-read =
-      let e = same-rules p (counted p) (same p (a .count-range .1) (a .buckets-range .1) .counted-same) .refusal-same ∙ accepted p .1 a in
+      let e = same-rules p (counted p) (same p (a .count-range .1) (a .buckets-range .1) (a .points-sound .few) .counted-same) .refusal-same ∙ accepted p .1 a in
       readable (encoded p) .1 record {
         long = rw (encoded-length p) (header-fits (p .count) (p .buckets));
         counts = rw (in-count, in-buckets) (a .count-range, a .buckets-range);

@@ -8,11 +8,11 @@ use native.Mathlib.Omega.{arith}
 use lib.ListN.{length, drop}
 use Rattle.walk.specs.Numbers.{le?}
 use Rattle.walk.proofs.Tests.{le?-complete, le?-fails}
-use Rattle.plan.specs.Places.{unless, firstRefusal}
+use Rattle.plan.specs.Places.{eq?, unless, firstRefusal}
 use Rattle.plan.specs.Plan.{countsFit, planRefusal}
 use Rattle.plan.specs.declared.Plan.{Plan}
-use Rattle.plan.proofs.PlaceLaws.{both, le-reads, eq?-fails, eq-reads, first-some, first-one, same-number, none-both, none-says, last-says}
-use Rattle.plan.proofs.AcceptedLaws.{Counted, counts-say}
+use Rattle.plan.proofs.PlaceLaws.{both, le-reads, eq?-fails, eq-reads, first-some, first-one, same-number, none-both, none-says, last-says, number-absent, number-here, number-after}
+use Rattle.plan.proofs.AcceptedLaws.{Counted, counts-say, plan-other}
 use Rattle.little.specs.Little.{field}
 use Rattle.stored_plan.specs.Form.{headerSize, thresholdOffsetField, bucketOffsetField, bucketOffset, formSize, formLimit, encoded}
 use Rattle.stored_plan.specs.Reading.{countIn, bucketsIn, planIn, offsetsFit, lengthFits, formRefusal, readRefusal, noPlan, decodedBy, decoded}
@@ -159,11 +159,23 @@ module _ (p : Plan) (bytes : List ℕ) where
   abbrev size : ℕ
   size = formSize (p .count) (p .buckets)
 
-  pub writable : (writeRefusal p bytes ≡ 0) ↔ ((planRefusal p ≡ 0) × (size ≤ length bytes))
+  -- past the plan's refusals
+  abbrev from17 : List ℕ
+  from17 = unless (eq? (p .points) 0) 17 ∷ unless (le? size (length bytes)) 12 ∷ []
+
+  pub writable : (writeRefusal p bytes ≡ 0) ↔ ((planRefusal p ≡ 0) × ((p .points ≡ 0) × (size ≤ length bytes)))
   unfolding writeRefusal
   writable =
       let fits = last-says (le? size (length bytes)) 11 (le-reads size (length bytes)) in
-      none-both (planRefusal p) (unless (le? size (length bytes)) 12 ∷ []) (λ e. e, λ e. e) fits
+      none-both (planRefusal p) from17 (λ e. e, λ e. e)
+      (none-says (eq? (p .points) 0) 16 (unless (le? size (length bytes)) 12 ∷ []) (eq-reads (p .points) 0) fits)
+
+  pub pointed : (writeRefusal p bytes ≡ 17) ↔ ((planRefusal p ≡ 0) × (¬ (p .points ≡ 0)))
+  unfolding writeRefusal
+  pointed =
+      number-after (planRefusal p) 17 from17 (plan-other p 17 (omega arith) (λ e. omega arith) (λ e. omega arith))
+      (number-here (eq? (p .points) 0) 16 (unless (le? size (length bytes)) 12 ∷ []) (eq-reads (p .points) 0)
+      (number-absent (le? size (length bytes)) 11 17 [] (λ e. omega arith) (λ e. omega arith)))
 
   pub written-none : writeRefusal p bytes ≡ 0
       → (record { refusal = 0; size = size } ≡ written p bytes) × (encoded p ++ drop size bytes ≡ bytesAfter p bytes)

@@ -7,7 +7,7 @@ use native.Mathlib.Omega.{arith}
 use lib.ListN.{length, take, drop}
 use lib.Seq.{length-take-le, take-all, take-at, drop-at}
 use Rattle.plan.specs.Places.{overTo}
-use Rattle.plan.specs.Plan.{countLimit, bucketLimit, countsFit}
+use Rattle.plan.specs.Plan.{countLimit, bucketLimit, pointLimit, countsFit}
 use Rattle.plan.specs.declared.Plan.{Plan}
 use Rattle.plan.specs.SameCounted.{SameCounted}
 use Rattle.plan.proofs.PlaceLaws.{le-or-lt}
@@ -22,7 +22,7 @@ use Rattle.stored_plan.specs.RoundTrip.{PlanBack, BytesBack, WrittenBack
 use Rattle.stored_plan.specs.RoundTrip.{AcceptedForms, AcceptedWritings, FormWritten, NoneOnRefusal, IgnoredInForm, Zeros}
 use Rattle.little.proofs.LittleLaws.{field-cut}
 use Rattle.stored_plan.proofs.FormLaws.{longest, encoded-length}
-use Rattle.stored_plan.proofs.Refusals.{readable, overlong-form, overlong, decoded-none, decoded-some, writable, written-none, written-some}
+use Rattle.stored_plan.proofs.Refusals.{readable, overlong-form, overlong, decoded-none, decoded-some, writable, pointed, written-none, written-some}
 use Rattle.little.proofs.FilledLaws.{filled-past}
 use Rattle.stored_plan.proofs.PlanBack.{same, plan-back, form-read}
 use Rattle.stored_plan.proofs.BytesBack.{bytes-back}
@@ -45,10 +45,10 @@ write-refusal p bytes = go (writeRefusal p bytes)
     go (suc r) = refl
 
 pub plan-back-holds : PlanBack
-plan-back-holds p e =
+plan-back-holds p e none =
     let a = accepted p .0 e in
-    let d = decoded-none (encoded p) (form-read p a) in
-    rw (← d, plan-back p a) (refl, same p (a .count-range .1) (a .buckets-range .1))
+    let d = decoded-none (encoded p) (form-read p a none) in
+    rw (← d, plan-back p a none) (refl, same p (a .count-range .1) (a .buckets-range .1) (a .points-sound .few))
 
 pub bytes-back-holds : BytesBack
 bytes-back-holds bytes each e =
@@ -76,14 +76,29 @@ pub cut-reading-holds : CutReading
 cut-reading-holds bytes =
     ⊎-elim (λ h. ap decoded (take-all cutAt bytes h)) (λ h. cut-same cutAt (omega arith) bytes (omega arith)) (le-or-lt (length bytes) cutAt)
 
+no-points : (bytes : List ℕ) → planIn bytes .points ≡ 0
+unfolding planIn
+no-points bytes = refl
+
 pub accepted-forms-hold : AcceptedForms
+unfolding decoded noPlan
 accepted-forms-hold bytes each = (
-  λ e. let z = sym (read-refusal bytes) ∙ e in (planIn bytes, readable bytes .0 z .accepted, sym (bytes-back bytes each z)),
-  λ s. read-refusal bytes ∙ rw (s .2) (form-read (s .0) (accepted (s .0) .0 (s .1))),
+  (
+    λ e. let z = sym (read-refusal bytes) ∙ e in (planIn bytes, readable bytes .0 z .accepted, no-points bytes, sym (bytes-back bytes each z)),
+    λ s. read-refusal bytes ∙ rw (s .3) (form-read (s .0) (accepted (s .0) .0 (s .1)) (s .2)),
+  ),
+  decoded-points (readRefusal bytes),
 )
+  where
+    decoded-points : (r : ℕ) → decodedBy r bytes .plan .points ≡ 0
+    decoded-points zero = no-points bytes
+    decoded-points (suc r) = refl
 
 pub accepted-writings-hold : AcceptedWritings
-accepted-writings-hold p bytes = rw (write-refusal p bytes, encoded-length p) (writable p bytes)
+accepted-writings-hold p bytes =
+    let w = writable p bytes in
+    rw (write-refusal p bytes, encoded-length p)
+    ((λ e. let h = w .0 e in (h .0, h .1 .0, h .1 .1), λ h. w .1 (h .0, (h .1, h .2))), pointed p bytes)
 
 pub form-written-holds : FormWritten
 form-written-holds p bytes e =
@@ -93,23 +108,26 @@ form-written-holds p bytes e =
     rw (← w .0, ← w .1) (take-at (encoded p) rest _ n, drop-at (encoded p) rest _ n)
 
 pub written-back-holds : WrittenBack
-written-back-holds p bytes e = rw (form-written-holds p bytes e .0) (plan-back-holds p (accepted-writings-hold p bytes .0 e .0))
+written-back-holds p bytes e =
+    let h = accepted-writings-hold p bytes .0 .0 e in
+    rw (form-written-holds p bytes e .0) (plan-back-holds p (h .0) (h .1))
 
 pub read-back-holds : ReadBack
 read-back-holds bytes lent each e long =
     let z = sym (read-refusal bytes) ∙ e in
     let form = bytes-back bytes each z in
     let size : formSize (planIn bytes .count) (planIn bytes .buckets) ≡ length bytes = sym (encoded-length (planIn bytes)) ∙ ap length form in
-    let w = written-none (planIn bytes) lent (writable (planIn bytes) lent .1 (readable bytes .0 z .accepted, rw size long)) in
+    let w = written-none (planIn bytes) lent (writable (planIn bytes) lent .1 (readable bytes .0 z .accepted, (no-points bytes, rw size long))) in
     rw (← decoded-none bytes z) (rw size at (sym (w .0)), rw (form, size) at (sym (w .1)))
 
 zeros : Zeros noPlan
 unfolding noPlan filled overTo
 zeros = record {
-  counts = (refl, refl);
+  counts = (refl, refl, refl);
   times = (refl, refl);
   entries = λ i. (filled-past countLimit 0 (λ k. k) i (omega arith), filled-past countLimit 0 (λ k. k) i (omega arith));
   ends = λ j. (filled-past bucketLimit 0 (λ k. k) j (omega arith), filled-past bucketLimit 0 (λ k. k) j (omega arith));
+  points = λ j. (filled-past pointLimit 0 (λ k. k) j (omega arith), filled-past pointLimit 0 (λ k. k) j (omega arith));
 }
 
 pub none-on-refusal-holds : NoneOnRefusal
@@ -134,7 +152,7 @@ module _ (p q : Plan) (c : SameCounted p q) where
   module _ (bytes : List ℕ) where
     refusal-same : writeRefusal q bytes ≡ writeRefusal p bytes
     unfolding writeRefusal
-    refusal-same = rw (same-rules p q c .refusal-same, c .counts .0, c .counts .1)
+    refusal-same = rw (same-rules p q c .refusal-same, c .counts .0, c .counts .1, c .counts .2)
 
     written-same : (r : ℕ) → (writtenBy r q ≡ writtenBy r p) × (bytesBy r q bytes ≡ bytesBy r p bytes)
     written-same zero = rw (form-same, c .counts .0, c .counts .1) (refl, refl)

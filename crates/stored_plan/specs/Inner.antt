@@ -3,15 +3,16 @@ use mathlib.Core.Path.{_≡_}
 use mathlib.Core.List.{List}
 use Prim.Native.Nat.{ℕ}
 use lib.ListN.{replicate}
-use Rattle.plan.specs.Plan.{countLimit, bucketLimit}
+use Rattle.plan.specs.Plan.{countLimit, bucketLimit, pointLimit}
 use Rattle.plan.specs.Tables.{planWith}
 use Rattle.plan.specs.declared.Plan.{Plan}
 use Rattle.stored_plan.specs.Reading.{decoded}
 use Rattle.stored_plan.specs.declared.Head.{Head}
 
--- the plan of a head and the tables beside it
+-- the plan of a head and the tables beside it, without points
 abbrev pub planFrom : Head → List ℕ → List ℕ → List ℕ → List ℕ → Plan
-planFrom h thresholds allowances left right = planWith (h .count) (h .buckets) (h .delay) (h .horizon) thresholds allowances left right
+planFrom h thresholds allowances left right =
+    planWith (h .count) (h .buckets) (h .delay) (h .horizon) 0 thresholds allowances left right (replicate pointLimit 0) (replicate pointLimit 0)
 
 -- tables of zeros, into which a plan is read
 abbrev pub Blank : List ℕ → List ℕ → List ℕ → List ℕ → Type 0

@@ -5,7 +5,7 @@ use Prim.Native.Nat.{ℕ, zero, suc, _+_}
 use lib.ListN.{length, replicate}
 use Rattle.walk.specs.Numbers.{le?}
 use Rattle.plan.specs.Places.{eq?, unless, firstRefusal}
-use Rattle.plan.specs.Plan.{countLimit, bucketLimit, countsFit, planRefusal}
+use Rattle.plan.specs.Plan.{countLimit, bucketLimit, pointLimit, countsFit, planRefusal}
 use Rattle.plan.specs.declared.Plan.{Plan}
 use Rattle.little.specs.Little.{field, column, filled}
 use Rattle.stored_plan.specs.Form.{headerSize, countField, bucketsField, thresholdOffsetField, bucketOffsetField, delayField, horizonField}
@@ -20,17 +20,20 @@ module _ (bytes : List ℕ) where
   unfoldable pub bucketsIn : ℕ
   bucketsIn = field 2 bucketsField bytes
 
-  -- the plan that the bytes hold, if they hold one; zeros past the counts
+  -- the plan that the bytes hold, if they hold one; zeros past the counts, and no points
   unfoldable pub planIn : Plan
   planIn = record {
     count = countIn;
     buckets = bucketsIn;
     delay = field 4 delayField bytes;
     horizon = field 4 horizonField bytes;
+    points = 0;
     thresholds = filled countIn (column 4 headerSize thresholdEntrySize bytes) (replicate countLimit 0);
     allowances = filled countIn (column 8 (headerSize + allowanceField) thresholdEntrySize bytes) (replicate countLimit 0);
     left = filled bucketsIn (column 4 (bucketOffset countIn) bucketEntrySize bytes) (replicate bucketLimit 0);
     right = filled bucketsIn (column 4 (bucketOffset countIn + rightField) bucketEntrySize bytes) (replicate bucketLimit 0);
+    steps = replicate pointLimit 0;
+    shares = replicate pointLimit 0;
   }
 
   unfoldable pub offsetsFit : Bool
@@ -54,10 +57,13 @@ noPlan = record {
   buckets = 0;
   delay = 0;
   horizon = 0;
+  points = 0;
   thresholds = replicate countLimit 0;
   allowances = replicate countLimit 0;
   left = replicate bucketLimit 0;
   right = replicate bucketLimit 0;
+  steps = replicate pointLimit 0;
+  shares = replicate pointLimit 0;
 }
 
 abbrev pub decodedBy : ℕ → List ℕ → Read

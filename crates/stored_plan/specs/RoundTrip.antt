@@ -4,7 +4,7 @@ use mathlib.Core.Logic.{_↔_}
 use mathlib.Core.Path.{_≡_}
 use Prim.Native.Nat.{ℕ, _+_, _≤_}
 use lib.ListN.{length, take, drop}
-use Rattle.plan.specs.Plan.{countLimit, bucketLimit, thresholdAt, allowanceAt, leftAt, rightAt, planRefusal}
+use Rattle.plan.specs.Plan.{countLimit, bucketLimit, pointLimit, thresholdAt, allowanceAt, leftAt, rightAt, stepAt, shareAt, planRefusal}
 use Rattle.plan.specs.SameCounted.{SameCounted}
 use Rattle.plan.specs.declared.Plan.{Plan}
 use Rattle.little.specs.Little.{Bytes}
@@ -17,19 +17,22 @@ pub record SamePlan (p q : Plan) : Type 0 where
   pub counted-same : SameCounted p q
   pub entries-past : (i : ℕ) → p .count ≤ i → (thresholdAt q i ≡ 0) × (allowanceAt q i ≡ 0)
   pub ends-past : (j : ℕ) → p .buckets ≤ j → (leftAt q j ≡ 0) × (rightAt q j ≡ 0)
+  pub points-past : (j : ℕ) → p .points ≤ j → (stepAt q j ≡ 0) × (shareAt q j ≡ 0)
   pub places : (length (q .thresholds) ≡ countLimit) × (length (q .allowances) ≡ countLimit)
       × (length (q .left) ≡ bucketLimit) × (length (q .right) ≡ bucketLimit)
+      × (length (q .steps) ≡ pointLimit) × (length (q .shares) ≡ pointLimit)
 
 -- zeros in every number
 pub record Zeros (p : Plan) : Type 0 where
-  pub counts : (p .count ≡ 0) × (p .buckets ≡ 0)
+  pub counts : (p .count ≡ 0) × (p .buckets ≡ 0) × (p .points ≡ 0)
   pub times : (p .delay ≡ 0) × (p .horizon ≡ 0)
   pub entries : (i : ℕ) → (thresholdAt p i ≡ 0) × (allowanceAt p i ≡ 0)
   pub ends : (j : ℕ) → (leftAt p j ≡ 0) × (rightAt p j ≡ 0)
+  pub points : (j : ℕ) → (stepAt p j ≡ 0) × (shareAt p j ≡ 0)
 
--- an accepted plan's form is read, and is the plan
+-- the form of an accepted plan without points is read, and is the plan
 abbrev pub PlanBack : Type 0
-PlanBack = (p : Plan) → planRefusal p ≡ 0 → (decoded (encoded p) .refusal ≡ 0) × SamePlan p (decoded (encoded p) .plan)
+PlanBack = (p : Plan) → planRefusal p ≡ 0 → p .points ≡ 0 → (decoded (encoded p) .refusal ≡ 0) × SamePlan p (decoded (encoded p) .plan)
 
 -- accepted bytes, read and written, are the same bytes
 abbrev pub BytesBack : Type 0
@@ -58,13 +61,17 @@ cutAt = formLimit + 1
 abbrev pub CutReading : Type 0
 CutReading = (bytes : List ℕ) → decoded (take cutAt bytes) ≡ decoded bytes
 
--- reading accepts exactly the forms of accepted plans
+-- reading accepts exactly the forms of accepted plans without points, and the plan has none
 abbrev pub AcceptedForms : Type 0
-AcceptedForms = (bytes : List ℕ) → Bytes bytes → (decoded bytes .refusal ≡ 0) ↔ ((p : Plan) × (planRefusal p ≡ 0) × (bytes ≡ encoded p))
+AcceptedForms = (bytes : List ℕ) → Bytes bytes
+    → ((decoded bytes .refusal ≡ 0) ↔ ((p : Plan) × (planRefusal p ≡ 0) × (p .points ≡ 0) × (bytes ≡ encoded p))) × (decoded bytes .plan .points ≡ 0)
 
--- writing accepts exactly the accepted plans whose form is no longer than the lent bytes
+-- writing accepts exactly the accepted plans without points whose form is no longer than the lent bytes; 17 refuses exactly the accepted plans with
+-- points, however many bytes are lent
 abbrev pub AcceptedWritings : Type 0
-AcceptedWritings = (p : Plan) (bytes : List ℕ) → (written p bytes .refusal ≡ 0) ↔ ((planRefusal p ≡ 0) × (length (encoded p) ≤ length bytes))
+AcceptedWritings = (p : Plan) (bytes : List ℕ)
+    → ((written p bytes .refusal ≡ 0) ↔ ((planRefusal p ≡ 0) × (p .points ≡ 0) × (length (encoded p) ≤ length bytes)))
+    × ((written p bytes .refusal ≡ 17) ↔ ((planRefusal p ≡ 0) × (¬ (p .points ≡ 0))))
 
 -- of lent bytes, so many as are handed back are the form, and the others keep their contents
 abbrev pub FormWritten : Type 0

@@ -1,10 +1,11 @@
--- Plan F's stored form, 44 bytes (rules 11); and damaged forms, with the refusals in their order (rules 8.2).
+-- Plan F's stored form, 44 bytes (rules 11); damaged forms, with the refusals in their order (rules 8.2); and plans with points.
 use mathlib.Core.Path.{_≡_}
 use mathlib.Core.List.{List, [], _∷_, _++_, map}
 use Prim.Native.Nat.{ℕ}
 use lib.ListN.{length, take, set, replicate}
 use Rattle.plan.specs.Plan.{countLimit, bucketLimit}
 use Rattle.plan.specs.PlanF.{planF}
+use Rattle.plan.specs.Trials.{pointsOf, planOfPoints}
 use Rattle.stored_plan.specs.Form.{formSize, formLimit, encoded}
 use Rattle.stored_plan.specs.Reading.{noPlan, decoded}
 use Rattle.stored_plan.specs.Writing.{written, bytesAfter}
@@ -39,7 +40,7 @@ unfoldable pub damages : List ℕ
 damages = 7 ∷ 7 ∷ 1 ∷ 1 ∷ 1 ∷ 7 ∷ 7 ∷ 7 ∷ 7 ∷ 2 ∷ 4 ∷ []
 
 -- the longest form; plan F is its bytes, both ways; the refusals of damaged forms; and of a plan that is written: a byte too few, no byte more than the form, two
--- more, and a refused plan into no bytes
+-- more, and a refused plan into no bytes; a plan with points into no bytes and into 44, and one with a point at step 0
 abbrev pub TrialsTheorem : Type 0
 TrialsTheorem =
     (formSize countLimit bucketLimit ≡ formLimit) × (length planFBytes ≡ 44) × (encoded planF ≡ planFBytes) × (decoded planFBytes ≡ record { refusal = 0; plan = planF })
@@ -48,3 +49,5 @@ TrialsTheorem =
     × (written planF (replicate 44 9) ≡ record { refusal = 0; size = 44 }) × (bytesAfter planF (replicate 44 9) ≡ planFBytes)
     × (written planF (replicate 46 9) ≡ record { refusal = 0; size = 44 }) × (bytesAfter planF (replicate 46 9) ≡ planFBytes ++ replicate 2 9)
     × (written noPlan [] ≡ record { refusal = 1; size = 0 })
+    × (written planOfPoints [] ≡ record { refusal = 17; size = 0 }) × (written planOfPoints (replicate 44 9) ≡ record { refusal = 17; size = 0 })
+    × (bytesAfter planOfPoints (replicate 44 9) ≡ replicate 44 9) × (written (pointsOf (0 ∷ []) (1 ∷ [])) [] ≡ record { refusal = 16; size = 0 })

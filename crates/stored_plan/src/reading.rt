@@ -29,6 +29,7 @@ use little::numbers::read_u32;
 use little::numbers::read_u64;
 use plan::BUCKET_LIMIT;
 use plan::COUNT_LIMIT;
+use plan::POINT_LIMIT;
 use plan::Plan;
 use plan::rules::counts_fit;
 use plan::rules::tables_refusal;
@@ -101,7 +102,7 @@ fn buckets_in(
     }
 }
 
-// The plan of a form that its counts and its length fit, and its refusal.
+// The plan of a form that its counts and its length fit, which has no points, and its refusal.
 fn plan_in(
     bytes: &[u8],
     thresholds: &mut [u32; COUNT_LIMIT],
@@ -124,15 +125,19 @@ fn plan_in(
     let at = bucket_offset(count);
     thresholds_in(bytes, count as usize, thresholds, allowances);
     buckets_in(bytes, at, buckets as usize, left, right);
+    let none = [0u32; POINT_LIMIT];
     let refusal = tables_refusal(
         count,
         buckets,
         delay,
         horizon,
+        0,
         thresholds,
         allowances,
         left,
         right,
+        &none,
+        &none,
     );
     Head {
         refusal,
@@ -190,10 +195,13 @@ fn refused(r: u32) -> Read
             buckets: 0,
             delay: 0,
             horizon: 0,
+            points: 0,
             thresholds: [0; COUNT_LIMIT],
             allowances: [0; COUNT_LIMIT],
             left: [0; BUCKET_LIMIT],
             right: [0; BUCKET_LIMIT],
+            steps: [0; POINT_LIMIT],
+            shares: [0; POINT_LIMIT],
         },
     }
 }
@@ -223,10 +231,13 @@ pub fn read_plan(bytes: &[u8]) -> Read
             buckets: head.buckets,
             delay: head.delay,
             horizon: head.horizon,
+            points: 0,
             thresholds,
             allowances,
             left,
             right,
+            steps: [0; POINT_LIMIT],
+            shares: [0; POINT_LIMIT],
         },
     }
 }

@@ -72,16 +72,17 @@ fn write_buckets(bytes: &mut [u8], p: Plan)
     }
 }
 
-// The refusal of a writing into so many bytes: the plan's, then 12.
+// The refusal of a writing into so many bytes: the plan's, then 17 for points, then 12.
 fn write_refusal(p: Plan, room: usize) -> u32
     ensures { λ r. ⌜ ((bytes : List ℕ) → length bytes ≡ room → r ≡ writeRefusal p bytes) ⌝ }
 {
     let plan = plan_refusal(p);
+    let points = unless(p.points == 0, 17);
     let space = unless(form_size(p.count, p.buckets) <= room, 12);
-    first_refusal(plan, space)
+    first_refusal(plan, first_refusal(points, space))
 }
 
-// The form of any plan into any lent bytes, or the refusal: the plan's, then 12. On a refusal no byte changes.
+// The form of any plan into any lent bytes, or the refusal: the plan's, then 17, then 12. On a refusal no byte changes.
 pub fn write_plan(p: Plan, bytes: &mut [u8]) -> Written
     ensures { λ r. ⌜ (r ≡ written p (now (bytes .entry))) × (now (bytes .exit) ≡ bytesAfter p (now (bytes .entry))) ⌝ }
 {

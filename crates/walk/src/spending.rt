@@ -1,16 +1,15 @@
 // What a side of a threshold may have spent (rules 3.1).
 
+use crate::Portion;
 ghost use mathlib.Core.Path.{_≡_};
 ghost use Prim.Native.Nat.{_≤_};
-ghost use Rattle.walk.specs.Units.{allowanceLimit, horizonLimit};
-ghost use Rattle.walk.specs.Spending.{spending};
+ghost use Rattle.walk.specs.Units.{million, allowanceLimit};
+ghost use Rattle.walk.specs.Spending.{portioned};
 
-// E(n), under an accepted plan, which keeps these bounds.
-pub fn spending_at(allowance: u64, delay: u32, n: u32) -> u64
-    requires { ⌜ (allowance ≤ allowanceLimit) × (1 ≤ delay) × (n ≤ horizonLimit) ⌝ }
-    ensures { λ r. ⌜ r ≡ spending allowance delay n ⌝ }
+// E(n), of which a draw knows the portion, under an accepted plan, which keeps these bounds.
+pub fn spending_at(allowance: u64, portion: Portion) -> u64
+    requires { ⌜ (allowance ≤ allowanceLimit) × (portion .parts ≤ million) × (1 ≤ portion .whole) ⌝ }
+    ensures { λ r. ⌜ r ≡ portioned portion allowance ⌝ }
 {
-    let draws = n as u64;
-    let wait = delay as u64;
-    allowance * draws / (draws + wait)
+    allowance * portion.parts / portion.whole
 }

@@ -47,7 +47,7 @@ module _ (c : tie.After-read-u322) where
   ones-is : c .read-u322 .result + begun .args .d ≡ field 4 onesField (begun .args .bytes .now) + begun .args .d
   ones-is = omega (arith, c .read-u322 .ensures .0)
 
-  turns : Turns (begun .args .thresholds .now) (begun .args .allowances .now) (begun .args .count) (begun .args .delay)
+  turns : Turns (begun .args .thresholds .now) (begun .args .allowances .now) (begun .args .count) (begun .args .portion)
       (c .before .read-u32 .result + 1) (c .read-u322 .result + begun .args .d) (begun .args .bytes .now)
   turns = ready-turns _ _ _ _ _ _ (begun .pre .0) _ _ n-is ones-is
 
@@ -76,7 +76,7 @@ returns c =
 
 -- where there is room
 room : (c : tie.Else1) → let b = read (c .before) in let a = begun b .args in
-    newSize (a .thresholds .now) (a .allowances .now) (a .count) (a .delay) (b .before .read-u32 .result + 1) (b .read-u322 .result + a .d) (a .bytes .now)
+    newSize (a .thresholds .now) (a .allowances .now) (a .count) (a .portion) (b .before .read-u32 .result + 1) (b .read-u322 .result + a .d) (a .bytes .now)
     ≤ length (a .lent .now)
 room c = le?-sound _ _ (passed (judged (c .before) .has-room .ensures .0) (c .if1 .left))
 

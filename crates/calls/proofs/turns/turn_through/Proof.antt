@@ -6,6 +6,7 @@ use mathlib.Core.List.{List}
 use Prim.Native.Nat.{ℕ, _+_, _*_, _-_, _≤_, _<_}
 use native.Mathlib.Omega.{arith}
 use lib.ListN.{length, take}
+use Rattle.walk.specs.declared.Portion.{Portion}
 use Rattle.walk.specs.Units.{million, wide}
 use Rattle.plan.specs.Plan.{countLimit}
 use Rattle.plan.specs.Places.{joinTo}
@@ -22,24 +23,24 @@ use borrow.Author.Needs.{needs}
 use Rattle.calls.proofs.turns.turn_through.Statement.{statement}
 use Rattle.calls.proofs.turns.turn_through.Tie as tie
 
-record Done (thresholds allowances : List ℕ) (count delay n ones : ℕ) (bytes part₀ lent₀ part lent : List ℕ) (writes : Bool) (at masses : ℕ) (standing : Standing)
+record Done (thresholds allowances : List ℕ) (count : ℕ) (portion : Portion) (n ones : ℕ) (bytes part₀ lent₀ part lent : List ℕ) (writes : Bool) (at masses : ℕ) (standing : Standing)
     (i : ℕ) : Type 0 where
   inside : i ≤ count
   part-size : length part ≡ length part₀
   lent-size : length lent ≡ length lent₀
   at-is : at ≡ massOffset bytes count i
-  masses-are : masses ≡ massesTo (newRecord thresholds allowances count delay n ones bytes) i
-  seen : Seen thresholds i (newRecord thresholds allowances count delay n ones bytes) standing
+  masses-are : masses ≡ massesTo (newRecord thresholds allowances count portion n ones bytes) i
+  seen : Seen thresholds i (newRecord thresholds allowances count portion n ones bytes) standing
   high : standing .high ≤ million
-  lent-is : writes ≡ true → lent ≡ putAt headerSize (joinTo i (newRecordBytes thresholds allowances count delay n ones bytes)) (putAt (recordOffset count) (joinTo i (newMassBytes thresholds allowances count delay n ones bytes)) lent₀)
+  lent-is : writes ≡ true → lent ≡ putAt headerSize (joinTo i (newRecordBytes thresholds allowances count portion n ones bytes)) (putAt (recordOffset count) (joinTo i (newMassBytes thresholds allowances count portion n ones bytes)) lent₀)
   kept : writes ≡ false → lent ≡ lent₀
 
 abbrev Inv-loop : tie.InvT-loop
-Inv-loop thresholds allowances count delay bytes n ones part₀ writes lent₀ front at₀ masses₀ standing₀ i₀ part lent at masses standing i =
-    Done thresholds allowances count delay n ones bytes part₀ lent₀ part lent writes at masses standing i
+Inv-loop thresholds allowances count portion bytes n ones part₀ writes lent₀ front at₀ masses₀ standing₀ i₀ part lent at masses standing i =
+    Done thresholds allowances count portion n ones bytes part₀ lent₀ part lent writes at masses standing i
 
 abbrev μ-loop : tie.MeasureT-loop
-μ-loop thresholds allowances count delay bytes n ones part₀ writes lent₀ front at₀ masses₀ standing₀ i₀ part lent at masses standing i = count - i
+μ-loop thresholds allowances count portion bytes n ones part₀ writes lent₀ front at₀ masses₀ standing₀ i₀ part lent at masses standing i = count - i
 
 long : (s : tie.Start Inv-loop μ-loop) → s .args .writes ≡ true → recordOffset (s .args .count) ≤ length (s .args .lent .now)
 unfolding formSize
@@ -89,7 +90,7 @@ element-copy-out-spending-at c = omega (arith, c .before .before .before .before
 spending-at-requires : tie.Need-spending-at-requires Inv-loop μ-loop
 spending-at-requires c κs =
     let j = c .before .before .before .before .before .before .before .before .pre .0 in
-    (j .allowed (c .before .before .before .loop .i) (c .before .before .loop-test .taken), j .delayed, j .early)
+    (j .allowed (c .before .before .before .loop .i) (c .before .before .loop-test .taken), j .spendable .0, j .spendable .1)
 
 mul-turn-at : tie.Need-mul-turn-at Inv-loop μ-loop
 mul-turn-at c = search needs

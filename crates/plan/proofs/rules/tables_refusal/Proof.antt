@@ -7,7 +7,7 @@ use Rattle.plan.specs.Plan.{rule1, planRefusal}
 use Rattle.plan.specs.Tables.{planWith}
 use Rattle.plan.specs.declared.Plan.{Plan}
 use Rattle.plan.proofs.PlaceLaws.{passed, failed}
-use Rattle.plan.proofs.AcceptedLaws.{Counted, counts-say, rule2-says, from2, from14, from3, from4, from5}
+use Rattle.plan.proofs.AcceptedLaws.{Counted, counts-say, rule2-says, from2, from14, from3, from4, from16, from5}
 use Rattle.plan.proofs.rules.tables_refusal.Statement.{statement}
 use Rattle.plan.proofs.rules.tables_refusal.Tie as tie
 
@@ -16,7 +16,8 @@ use Rattle.plan.proofs.rules.tables_refusal.Tie as tie
 abbrev lentPlan : tie.Else1 → Plan
 lentPlan c =
     let a = c .before .before .args in
-    planWith (a .count) (a .buckets) (a .delay) (a .horizon) (a .thresholds .now) (a .allowances .now) (a .left .now) (a .right .now)
+    planWith (a .count) (a .buckets) (a .delay) (a .horizon) (a .points) (a .thresholds .now) (a .allowances .now) (a .left .now) (a .right .now) (a .steps .now)
+    (a .shares .now)
 
 abbrev to1 : tie.Else2 → tie.Else1
 to1 c = c .before .before
@@ -30,6 +31,9 @@ to3 c = c .before .before
 abbrev to4 : tie.Else5 → tie.Else4
 to4 c = c .before .before
 
+abbrev to5 : tie.Else6 → tie.Else5
+to5 c = c .before .before
+
 abbrev first3 : tie.Else3 → tie.Else1
 first3 c = to1 (to2 c)
 
@@ -38,6 +42,9 @@ first4 c = first3 (to3 c)
 
 abbrev first5 : tie.Else5 → tie.Else1
 first5 c = first4 (to4 c)
+
+abbrev first6 : tie.Else6 → tie.Else1
+first6 c = first5 (to5 c)
 
 -- rule 1 keeps the places of the others inside the arrays
 counts : (c : tie.Else1) → Counted (lentPlan c .count) (lentPlan c .buckets)
@@ -58,8 +65,11 @@ past14 c = rw (past2 (to2 c), passed (c .before .thresholds-apart .ensures (lent
 past3 : (c : tie.Else4) → planRefusal (lentPlan (first4 c)) ≡ firstRefusal (from4 (lentPlan (first4 c)))
 past3 c = rw (past14 (to3 c), passed (c .before .allowances-fit .ensures (lentPlan (first4 c)) refl refl) (c .if4 .left))
 
-past4 : (c : tie.Else5) → planRefusal (lentPlan (first5 c)) ≡ firstRefusal (from5 (lentPlan (first5 c)))
+past4 : (c : tie.Else5) → planRefusal (lentPlan (first5 c)) ≡ firstRefusal (from16 (lentPlan (first5 c)))
 past4 c = rw (past3 (to4 c), passed (c .before .times-fit .ensures (lentPlan (first5 c)) refl refl) (c .if5 .left))
+
+past16 : (c : tie.Else6) → planRefusal (lentPlan (first6 c)) ≡ firstRefusal (from5 (lentPlan (first6 c)))
+past16 c = rw (past4 (to5 c), passed (c .before .points-fit .ensures (lentPlan (first6 c)) refl refl refl refl) (c .if6 .left))
 
 -- ---- the needs
 
@@ -104,13 +114,21 @@ returns-5 c =
     let e = c .before .before in
     rw (past3 e, failed (c .before .times-fit .ensures (lentPlan (first4 e)) refl refl) (c .if5 .taken))
 
-buckets-refusal-requires : tie.Need-buckets-refusal-requires
-buckets-refusal-requires c κs = let h = counts (first5 c) in (h .0 .1, h .1 .1)
+points-fit-requires : tie.Need-points-fit-requires
+points-fit-requires c κs = search needs
 
 returns-6 : tie.Need-returns-6
 returns-6 c =
+    let e = c .before .before in
+    rw (past4 e, failed (c .before .points-fit .ensures (lentPlan (first5 e)) refl refl refl refl) (c .if6 .taken))
+
+buckets-refusal-requires : tie.Need-buckets-refusal-requires
+buckets-refusal-requires c κs = let h = counts (first6 c) in (h .0 .1, h .1 .1)
+
+returns-7 : tie.Need-returns-7
+returns-7 c =
     let e = c .before in
-    c .buckets-refusal .ensures (lentPlan (first5 e)) refl refl refl refl refl ∙ sym (past4 e)
+    c .buckets-refusal .ensures (lentPlan (first6 e)) refl refl refl refl refl ∙ sym (past16 e)
 
 pub tables-refusal-spec : {M : Type 1} → statement M
 tables-refusal-spec =
@@ -126,5 +144,7 @@ tables-refusal-spec =
     returns-4
     times-fit-requires
     returns-5
+    points-fit-requires
+    returns-6
     buckets-refusal-requires
-    returns-6)
+    returns-7)

@@ -6,7 +6,8 @@ use Prim.Native.Nat.{ℕ, _+_, _*_, _-_, _≤_}
 use native.Mathlib.Omega.{arith}
 use lib.ListN.{length, getD}
 use Rattle.walk.specs.Units.{wide}
-use Rattle.walk.specs.Spending.{spending}
+use Rattle.walk.specs.Spending.{portioned}
+use Rattle.walk.specs.declared.Portion.{Portion}
 use Rattle.plan.proofs.PlaceLaws.{passed, failed, Sought, sought-none, sought-next, sought-here, sought-nowhere}
 use Rattle.bucket_test.specs.Turn.{recordSound}
 use Rattle.bucket_test.specs.declared.Threshold.{Threshold}
@@ -18,16 +19,16 @@ use Rattle.saved_test.proofs.reading.parts_sound.Statement.{statement}
 use Rattle.saved_test.proofs.reading.parts_sound.Tie as tie
 
 -- the threshold at place i passes
-abbrev passes : List ℕ → ℕ → ℕ → List ℕ → ℕ → ℕ → ℕ → Bool
-passes allowances count delay bytes n ones i =
-    recordSound (spending (getD allowances i 0) delay n) n ones (recordIn bytes i .mark) (recordIn bytes i) (partIn bytes count i)
+abbrev passes : List ℕ → ℕ → Portion → List ℕ → ℕ → ℕ → ℕ → Bool
+passes allowances count portion bytes n ones i =
+    recordSound (portioned portion (getD allowances i 0)) n ones (recordIn bytes i .mark) (recordIn bytes i) (partIn bytes count i)
 
 abbrev Inv-loop : tie.InvT-loop
-Inv-loop allowances count delay bytes n ones at₀ i₀ at i =
-    (at ≡ massOffset bytes count i) × Sought false (passes allowances count delay bytes n ones) count i
+Inv-loop allowances count portion bytes n ones at₀ i₀ at i =
+    (at ≡ massOffset bytes count i) × Sought false (passes allowances count portion bytes n ones) count i
 
 abbrev μ-loop : tie.MeasureT-loop
-μ-loop allowances count delay bytes n ones at₀ i₀ at i = count - i
+μ-loop allowances count portion bytes n ones at₀ i₀ at i = count - i
 
 mul-at : tie.Need-mul-at Inv-loop μ-loop
 mul-at c = search needs
@@ -93,7 +94,7 @@ record-sound-in-requires c κs = let b = c .before .before in (lent b .0, lent b
 judged : (c : tie.After-record-sound-in Inv-loop μ-loop)
     → let b = c .before .before .before in
     let a = start b .args in
-    c .record-sound-in .result ≡ passes (a .allowances .now) (a .count) (a .delay) (a .bytes .now) (a .n) (a .ones) (i b)
+    c .record-sound-in .result ≡ passes (a .allowances .now) (a .count) (a .portion) (a .bytes .now) (a .n) (a .ones) (i b)
 judged c =
     let b = c .before .before .before in
     let l = b .before .before .loop in

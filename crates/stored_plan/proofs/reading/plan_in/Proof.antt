@@ -53,7 +53,7 @@ judged e same = (same, e ∙ ap planRefusal same)
 returns : tie.Need-returns
 unfolding planIn countIn bucketsIn
 returns c =
-    let to-buckets = c .before .before .before .before .before in
+    let to-buckets = c .before .before .before .before .before .before .before in
     let to-thresholds = to-buckets .before .before .before in
     let to-offset = to-thresholds .before .before .before in
     let to-times = to-offset .before in

@@ -22,7 +22,7 @@ fits : (c : tie.Else1) → let a = c .before .before .before .args in
 fits c =
     let a = c .before .before .before .args in
     let w = writable (a .p) (a .bytes .now) .0 (none c) in
-    (accepted (a .p) .0 (w .0), w .1)
+    (accepted (a .p) .0 (w .0), w .1 .1)
 
 write-refusal-requires : tie.Need-write-refusal-requires
 write-refusal-requires c κs = search needs
