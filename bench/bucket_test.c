@@ -3,7 +3,7 @@
 #include <stdio.h>
 #include <unistd.h>
 
-#include "bucket_test.h"
+#include "drawing.h"
 
 /* --- the stored plan --- */
 
@@ -34,43 +34,10 @@ static uint32_t read_plan(const uint8_t *b, size_t n, struct plan *p) {
     return plan_refusal(p);
 }
 
-/* --- a draw --- */
-
-static struct outcome draw(const struct plan *p, struct state *s, uint64_t *words, size_t length, uint8_t d) {
-    uint32_t bad = plan_refusal(p);
-    if (bad) return outcome(REFUSED, bad);
-    if (length != (size_t)WIDE * p->count) return outcome(REFUSED, 8);
-    if (d > 1) return outcome(REFUSED, 9);
-    enum answer before = answer_of(p, s).answer;
-    if (before != OPEN) return outcome(REFUSED, 10);
-    if (!state_sound(p, s, words)) return outcome(REFUSED, 11);
-    s->n++;
-    s->ones += d;
-    for (uint32_t i = 0; i < p->count; i++) {
-        struct record *r = &s->record[i];
-        if (r->mark != OPEN_MARK) continue;
-        walk(words + WIDE * i, r, p->threshold[i], spending(p, i, s->n), 1);
-        if (s->ones >= r->upper) r->mark = ABOVE;
-        else if ((int64_t)s->ones <= r->lower) r->mark = AT_MOST;
-        if (r->mark != OPEN_MARK) r->at = s->n;
-    }
-    return answer_of(p, s);
-}
-
-static void begin(const struct plan *p, struct state *s, uint64_t *words) {
-    memset(words, 0, sizeof *words * WIDE * p->count);
-    memset(s, 0, sizeof *s);
-    for (int i = 0; i < 10; i++) {
-        s->record[i].lower = -1;
-        s->record[i].upper = 1;
-    }
-    for (uint32_t i = 0; i < p->count; i++) words[WIDE * i] = WHOLE;
-}
-
 /* --- the program --- */
 
 static struct outcome feed(const struct plan *p, struct state *s, uint64_t *words) {
-    struct outcome o = answer_of(p, s);
+    struct outcome o = begin(p, s, words);
     uint8_t chunk[4096];
     ssize_t got;
     while (o.answer == OPEN && (got = read(0, chunk, sizeof chunk)) > 0)
@@ -94,7 +61,6 @@ int main(void) {
         printf("refused %u\n", bad);
         return 0;
     }
-    begin(&p, &s, words);
     struct outcome o = feed(&p, &s, words);
     interval(&p, &s, &low, &high);
     if (o.answer == REFUSED) printf("refused %u\n", o.number);

@@ -1,4 +1,4 @@
-/* What both yardsticks share, bench/bucket_test.c and bench/saved_test.c: the plan's rules, the walk, the answer, and what a spoiled state is. */
+/* What the yardsticks share: the plan's rules, the walk, the answer, what a spoiled state is, and a step of a test. */
 #include <stdint.h>
 #include <string.h>
 
@@ -10,10 +10,11 @@ enum mark { OPEN_MARK, ABOVE, AT_MOST };
 enum answer { OPEN, DECIDED, CROSSED, IS_WIDE, SPENT, REFUSED };
 
 struct plan {
-    uint32_t count, buckets, delay, horizon;
+    uint32_t count, buckets, delay, horizon, points;
     uint32_t threshold[10];
     uint64_t allowance[10];
     uint32_t left[16], right[16];
+    uint32_t step[8], share[8];
 };
 
 struct record {
@@ -61,6 +62,16 @@ static int is_covered(const struct plan *p) {
     }
 }
 
+static int points_fit(const struct plan *p) {
+    if (p->points > 8) return 0;
+    for (uint32_t j = 0, step = 0, share = 0; j < p->points; j++) {
+        if (p->step[j] <= step || p->step[j] > p->horizon || p->share[j] < share || p->share[j] > MILLION) return 0;
+        step = p->step[j];
+        share = p->share[j];
+    }
+    return 1;
+}
+
 static uint32_t plan_refusal(const struct plan *p) {
     if (p->count < 1 || p->count > 10 || p->buckets < 2 || p->buckets > 16) return 1;
     for (uint32_t i = 0, before = 0; i < p->count; before = p->threshold[i++])
@@ -70,6 +81,7 @@ static uint32_t plan_refusal(const struct plan *p) {
     for (uint32_t i = 0; i < p->count; i++)
         if (p->allowance[i] < 1 || p->allowance[i] >= WHOLE / 2) return 3;
     if (p->delay < 1 || p->delay > 65535 || p->horizon < 1 || p->horizon > 50000) return 4;
+    if (!points_fit(p)) return 16;
     for (uint32_t j = 0; j < p->buckets; j++) {
         uint32_t l = p->left[j], r = p->right[j];
         if (l >= r || (l == 0 && r == MILLION) || !is_end(p, l) || !is_end(p, r)) return 5;
@@ -79,7 +91,16 @@ static uint32_t plan_refusal(const struct plan *p) {
 
 /* --- the walk of one threshold --- */
 
-static uint64_t spending(const struct plan *p, uint32_t i, uint32_t n) {
+/* The share of the last point at or before n; 0 before the first. The same for all thresholds. */
+static uint32_t share_at(const struct plan *p, uint32_t n) {
+    uint32_t share = 0;
+    for (uint32_t j = 0; j < p->points && p->step[j] <= n; j++) share = p->share[j];
+    return share;
+}
+
+/* E(n), with the share at n. */
+static uint64_t spending(const struct plan *p, uint32_t i, uint32_t n, uint32_t share) {
+    if (p->points) return p->allowance[i] * share / MILLION;
     return p->allowance[i] * n / ((uint64_t)n + p->delay);
 }
 
@@ -161,14 +182,31 @@ static int is_sound(const uint64_t *mass, const struct record *r, uint32_t n, ui
 
 static int state_sound(const struct plan *p, const struct state *s, const uint64_t *words) {
     if (s->n > p->horizon || s->ones > s->n) return 0;
+    uint32_t share = share_at(p, s->n);
     for (uint32_t i = 0; i < p->count; i++) {
         const struct record *r = &s->record[i];
         if (r->rounded > (uint64_t)WIDE * s->n) return 0;
         if (r->mark != OPEN_MARK) {
             if (r->at < 1 || r->at > s->n) return 0;
-        } else if (!is_sound(words + WIDE * i, r, s->n, s->ones, spending(p, i, s->n))) {
+        } else if (!is_sound(words + WIDE * i, r, s->n, s->ones, spending(p, i, s->n, share))) {
             return 0;
         }
     }
     return 1;
+}
+
+/* --- a draw that nothing refuses --- */
+
+static void take(const struct plan *p, struct state *s, uint64_t *words, uint32_t d, int clears) {
+    s->n++;
+    s->ones += d;
+    uint32_t share = share_at(p, s->n);
+    for (uint32_t i = 0; i < p->count; i++) {
+        struct record *r = &s->record[i];
+        if (r->mark != OPEN_MARK) continue;
+        walk(words + WIDE * i, r, p->threshold[i], spending(p, i, s->n, share), clears);
+        if (s->ones >= r->upper) r->mark = ABOVE;
+        else if ((int64_t)s->ones <= r->lower) r->mark = AT_MOST;
+        if (r->mark != OPEN_MARK) r->at = s->n;
+    }
 }

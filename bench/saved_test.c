@@ -43,6 +43,7 @@ static uint32_t read_plan(const uint8_t *b, size_t n, struct plan *p) {
     if (get2(b + 4) != 16 || get2(b + 6) != ends || n != ends + 8 * p->buckets) return 7;
     p->delay = get4(b + 8);
     p->horizon = get4(b + 12);
+    p->points = 0;
     for (uint32_t i = 0; i < p->count; i++) {
         p->threshold[i] = get4(b + 16 + 12 * i);
         p->allowance[i] = get8(b + 20 + 12 * i);
@@ -128,19 +129,6 @@ static int write_test(const struct plan *p, const struct state *s, const uint64_
 
 /* --- the calls (saved 6) --- */
 
-static void take(const struct plan *p, struct state *s, uint64_t *words, uint32_t d) {
-    s->n++;
-    s->ones += d;
-    for (uint32_t i = 0; i < p->count; i++) {
-        struct record *r = &s->record[i];
-        if (r->mark != OPEN_MARK) continue;
-        walk(words + WIDE * i, r, p->threshold[i], spending(p, i, s->n), 0);
-        if (s->ones >= r->upper) r->mark = ABOVE;
-        else if ((int64_t)s->ones <= r->lower) r->mark = AT_MOST;
-        if (r->mark != OPEN_MARK) r->at = s->n;
-    }
-}
-
 static uint32_t number_of(struct outcome o) {
     static const uint32_t number[] = {VIMORAKE_OPEN, VIMORAKE_BUCKET(0), VIMORAKE_CROSSED, VIMORAKE_WIDE, VIMORAKE_SPENT};
     return number[o.answer] + o.number;
@@ -171,6 +159,6 @@ uint32_t vimorake_draw(const uint8_t *plan, size_t plan_size, const uint8_t *sav
     if (draw > 1) return 9;
     if (answer_of(&p, &s).answer != OPEN) return 10;
     if (!state_sound(&p, &s, words)) return 11;
-    take(&p, &s, words, draw);
+    take(&p, &s, words, draw, 0);
     return write_test(&p, &s, words, lent, lent_size) ? number_of(answer_of(&p, &s)) : 12;
 }

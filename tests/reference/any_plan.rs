@@ -121,6 +121,7 @@ pub fn plan_of_size(rng: &mut Rng, k: usize, least_allowance: u64, horizon: u32)
         delay: rng.scale(1, 65_535) as u32,
         horizon,
         buckets: Vec::new(),
+        points: Vec::new(),
     };
     let allowances = allowances(rng, k, least_allowance);
     draft.thresholds = thresholds(rng, k).into_iter().zip(allowances).collect();

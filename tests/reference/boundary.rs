@@ -3,8 +3,9 @@
 //! `Literal` is the definition: a map from count to mass, and the boundaries searched over
 //! their whole printed ranges. `Quick` gives the same by sums up to each count and a search
 //! by halves; it is held to `Literal` by the self-check and at the start of every compared run.
+//! Of points `Literal` has the rules' sentence, and `Quick` changes what may be spent when it comes to one.
 
-use crate::plan::{MILLION, WHOLE};
+use crate::plan::{Plan, Point, MILLION, WHOLE};
 use std::collections::BTreeMap;
 
 /// A walk with so many live counts is wide.
@@ -16,6 +17,73 @@ pub fn spending(allowance: u128, delay: u128, n: u128) -> u128 {
         0
     } else {
         allowance * n / (n + delay)
+    }
+}
+
+/// By what the allowance is spent.
+#[derive(Clone, Debug)]
+pub enum By {
+    Delay(u128),
+    /// One point or more.
+    Points(Vec<Point>),
+}
+
+impl From<u128> for By {
+    fn from(delay: u128) -> By {
+        By::Delay(delay)
+    }
+}
+
+impl From<&Plan> for By {
+    fn from(plan: &Plan) -> By {
+        match plan.points.is_empty() {
+            true => By::Delay(plan.delay),
+            false => By::Points(plan.points.clone()),
+        }
+    }
+}
+
+/// The last point at or before n: no other one at or before n has a later step.
+fn last_by(points: &[Point], n: u128) -> Option<&Point> {
+    let by = |point: &&Point| point.step <= n;
+    points.iter().filter(by).find(|last| points.iter().filter(by).all(|other| other.step <= last.step))
+}
+
+impl By {
+    /// Allowance spent by step n.
+    pub fn spending(&self, allowance: u128, n: u128) -> u128 {
+        match self {
+            By::Delay(delay) => spending(allowance, *delay, n),
+            By::Points(points) => last_by(points, n).map_or(0, |last| allowance * last.share / MILLION),
+        }
+    }
+}
+
+/// What may be spent, from step to step.
+#[derive(Clone)]
+pub struct Limit {
+    allowance: u128,
+    by: By,
+    step: u128,
+    pub now: u128,
+}
+
+impl Limit {
+    pub fn begin(allowance: u128, by: impl Into<By>) -> Limit {
+        Limit { allowance, by: by.into(), step: 0, now: 0 }
+    }
+
+    /// To the next step: at a point its share, and between points what it was.
+    pub fn advance(&mut self) {
+        self.step += 1;
+        match &self.by {
+            By::Delay(delay) => self.now = self.allowance * self.step / (self.step + delay),
+            By::Points(points) => {
+                if let Some(here) = points.iter().find(|point| point.step == self.step) {
+                    self.now = self.allowance * here.share / MILLION;
+                }
+            }
+        }
     }
 }
 
@@ -32,7 +100,7 @@ fn rounded_up(over: u128) -> u128 {
 pub struct Literal {
     at: u128,
     allowance: u128,
-    delay: u128,
+    by: By,
     pub step: i64,
     pub upper: i64,
     pub lower: i64,
@@ -44,11 +112,11 @@ pub struct Literal {
 }
 
 impl Literal {
-    pub fn begin(at: u128, allowance: u128, delay: u128) -> Literal {
+    pub fn begin(at: u128, allowance: u128, by: impl Into<By>) -> Literal {
         Literal {
             at,
             allowance,
-            delay,
+            by: by.into(),
             step: 0,
             upper: 1,
             lower: -1,
@@ -79,7 +147,7 @@ impl Literal {
         let new = self.spread();
         self.rounded += self.counts_rounded(&new).len() as u64;
         self.step += 1;
-        let limit = spending(self.allowance, self.delay, self.step as u128);
+        let limit = self.by.spending(self.allowance, self.step as u128);
         let t = self.step;
         let from = |j: i64| new.range(j..).map(|(_, m)| m).sum::<u128>();
         let to = |j: i64| new.range(..=j).map(|(_, m)| m).sum::<u128>();
@@ -159,8 +227,7 @@ fn least(from: i64, to: i64, holds: impl Fn(i64) -> bool) -> i64 {
 #[derive(Clone)]
 pub struct Quick {
     at: u64,
-    allowance: u128,
-    delay: u128,
+    limit: Limit,
     slip: Slip,
     pub step: i64,
     pub upper: i64,
@@ -174,11 +241,10 @@ pub struct Quick {
 }
 
 impl Quick {
-    pub fn begin(at: u128, allowance: u128, delay: u128, slip: Slip) -> Quick {
+    pub fn begin(at: u128, allowance: u128, by: impl Into<By>, slip: Slip) -> Quick {
         Quick {
             at: at as u64,
-            allowance,
-            delay,
+            limit: Limit::begin(allowance, by),
             slip,
             step: 0,
             upper: 1,
@@ -216,7 +282,8 @@ impl Quick {
     pub fn advance(&mut self) {
         self.step += 1;
         let t = self.step;
-        let limit = spending(self.allowance, self.delay, t as u128);
+        self.limit.advance();
+        let limit = self.limit.now;
         let first = self.first;
         let (new, rounded) = self.spread();
         self.rounded += rounded;

@@ -2,7 +2,7 @@
 //! numbers of masses rounded, each of which must break one of them.
 
 use crate::big::Big;
-use crate::boundary::{spending, Literal, WIDE};
+use crate::boundary::{By, Literal, WIDE};
 use crate::plan::{LARGEST_ALLOWANCE, MILLION, WHOLE};
 use crate::rng::Rng;
 use crate::tally::{named, Counts};
@@ -61,16 +61,16 @@ const WRONG: [(&str, Bound, fn(u64, &Step) -> u64); 5] = [
 ];
 
 /// Do the bounds hold at every step? Counts the steps at which a wrong number breaks its own.
-fn hold(shown: &mut Counts<&'static str>, (at, allowance, delay): (u64, u64, u64)) -> bool {
-    let mut walk = Literal::begin(at as u128, allowance as u128, delay as u128);
+pub fn hold(shown: &mut Counts<&'static str>, (at, allowance): (u64, u64), by: &By, steps: u64) -> bool {
+    let mut walk = Literal::begin(at as u128, allowance as u128, by.clone());
     let mut weights = Weights::begin(at, MILLION as u64);
     let mut wrong = [0; WRONG.len()];
     let mut good = true;
-    for n in 1..=STEPS {
+    for n in 1..=steps {
         let step = Step::of(&mut walk);
         weights.advance();
         weights.settle(walk.upper, walk.lower);
-        let limit = weights.whole.times(spending(allowance as u128, delay as u128, n as u128) as u64);
+        let limit = weights.whole.times(by.spending(allowance as u128, n as u128) as u64);
         let scaled = |(met, spent): (&Big, u128)| (met.times(WHOLE as u64), weights.whole.times(spent as u64));
         let sides = [(&weights.above, walk.spent_above), (&weights.below, walk.spent_below)].map(scaled);
         let sum = walk.mass.values().sum::<u128>() + walk.spent_above + walk.spent_below;
@@ -78,7 +78,7 @@ fn hold(shown: &mut Counts<&'static str>, (at, allowance, delay): (u64, u64, u64
             Bound::Side => sides.iter().all(|(met, spent)| spent.at_most(&met.plus(&weights.whole.times(rounded)))),
             Bound::Sum => sum <= WHOLE + rounded as u128,
         };
-        good &= sides.iter().all(|(met, spent)| met.at_most(&limit) && met.at_most(spent))
+        good &= sides.iter().all(|(met, spent)| met.at_most(&limit) && met.at_most(spent) && spent.at_most(&limit))
             && within(Bound::Side, walk.rounded)
             && within(Bound::Sum, walk.rounded)
             && walk.rounded <= WIDE as u64 * n;
@@ -99,7 +99,9 @@ pub fn checks(seed: u64) -> Vec<(String, bool)> {
     let mut shown = Counts::new();
     let mut out = Vec::new();
     for plan in (0..ROUNDS).map(any).chain(CHOSEN) {
-        out.push((format!("chances for threshold, allowance, delay {plan:?}"), hold(&mut shown, plan)));
+        let (at, allowance, delay) = plan;
+        let good = hold(&mut shown, (at, allowance), &By::Delay(delay as u128), STEPS);
+        out.push((format!("chances for threshold, allowance, delay {plan:?}"), good));
     }
     println!("bounds broken by masses rounded in place of all: {}", named(&shown));
     let enough = |(name, count): (&str, u64)| (format!("masses rounded {name} break a bound"), count >= SHOWN);

@@ -1,6 +1,6 @@
 //! A plan before it is stored, and the plans that several checks use.
 
-use crate::plan::LARGEST_ALLOWANCE;
+use crate::plan::{Bucket, Plan, Point, Threshold, LARGEST_ALLOWANCE};
 
 /// A plan before it is stored; nothing in it need keep the rules.
 #[derive(Clone, Debug)]
@@ -9,9 +9,26 @@ pub struct Draft {
     pub delay: u32,
     pub horizon: u32,
     pub buckets: Vec<(u32, u32)>,
+    /// Steps and shares.
+    pub points: Vec<(u32, u32)>,
 }
 
 impl Draft {
+    /// The plan itself, its rules not judged.
+    pub fn plan(&self) -> Plan {
+        let threshold = |(at, allowance): &(u32, u64)| Threshold { at: *at as u128, allowance: *allowance as u128 };
+        let bucket = |(left, right): &(u32, u32)| Bucket { left: *left as u128, right: *right as u128 };
+        let point = |(step, share): &(u32, u32)| Point { step: *step as u128, share: *share as u128 };
+        Plan {
+            thresholds: self.thresholds.iter().map(threshold).collect(),
+            buckets: self.buckets.iter().map(bucket).collect(),
+            delay: self.delay as u128,
+            horizon: self.horizon as u128,
+            points: self.points.iter().map(point).collect(),
+        }
+    }
+
+    /// The stored form, which has no place for points.
     pub fn store(&self) -> Vec<u8> {
         let k = self.thresholds.len();
         let mut out = Vec::new();
@@ -45,7 +62,8 @@ pub fn two_buckets(at: u32) -> Vec<(u32, u32)> {
 }
 
 pub fn plan_f() -> Draft {
-    Draft { thresholds: vec![(50_000, 4_398_046_511)], delay: 1000, horizon: 200, buckets: two_buckets(50_000) }
+    let (thresholds, buckets) = (vec![(50_000, 4_398_046_511)], two_buckets(50_000));
+    Draft { thresholds, delay: 1000, horizon: 200, buckets, points: Vec::new() }
 }
 
 /// Two thresholds, each with as large an allowance as there is.
@@ -55,6 +73,7 @@ pub fn plan_g() -> Draft {
         delay: 1,
         horizon: 200,
         buckets: vec![(0, 100_000), (100_000, 400_000), (400_000, 1_000_000)],
+        points: Vec::new(),
     }
 }
 
@@ -77,6 +96,7 @@ pub fn star_plan() -> Draft {
         delay: STAR_DELAY,
         horizon: 50_000,
         buckets: STAR_BUCKETS.to_vec(),
+        points: Vec::new(),
     }
 }
 

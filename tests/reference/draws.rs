@@ -2,7 +2,6 @@
 
 use crate::boundary::{Quick, Slip};
 use crate::draft::Draft;
-use crate::plan::read;
 use crate::rng::Rng;
 use crate::sequential::{Mark, Test};
 
@@ -50,7 +49,8 @@ impl Style {
 
 /// Draws up to an ending answer, each chosen when the boundaries of its step are known.
 pub fn chosen(draft: &Draft, length: usize, mut choose: impl FnMut(&Test) -> bool) -> Vec<bool> {
-    let plan = read(&draft.store()).expect("a plan that keeps the rules");
+    let plan = draft.plan();
+    assert_eq!(plan.refusal(), None, "a plan that keeps the rules");
     let mut test = Test::begin(&plan, Slip::None);
     let mut draws = Vec::new();
     while draws.len() < length && !test.answer().ends() {

@@ -23,6 +23,7 @@ pub fn crossing_plan() -> Draft {
         delay: 1,
         horizon: 700,
         buckets: vec![(0, 1000), (1000, 900_000), (900_000, 1_000_000)],
+        points: Vec::new(),
     }
 }
 
@@ -51,7 +52,7 @@ pub fn gap_plan() -> Draft {
 
 /// A threshold of one half that goes wide: its boundaries spread the fastest.
 pub fn widening_plan(horizon: u32) -> Draft {
-    Draft { thresholds: vec![(500_000, 1)], delay: 1, horizon, buckets: two_buckets(500_000) }
+    Draft { thresholds: vec![(500_000, 1)], delay: 1, horizon, buckets: two_buckets(500_000), points: Vec::new() }
 }
 
 /// Ones settle the second threshold; then its bucket is the narrower of the two that contain the interval.

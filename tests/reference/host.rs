@@ -12,10 +12,13 @@ pub struct Plan {
     pub buckets: u32,
     pub delay: u32,
     pub horizon: u32,
+    pub points: u32,
     pub thresholds: [u32; 10],
     pub allowances: [u64; 10],
     pub left: [u32; 16],
     pub right: [u32; 16],
+    pub steps: [u32; 8],
+    pub shares: [u32; 8],
 }
 
 impl Plan {
@@ -23,6 +26,11 @@ impl Plan {
     pub fn bucket(&self, place: u32) -> Bucket {
         let of = |ends: &[u32; 16]| ends[place as usize] as u128;
         Bucket { left: of(&self.left), right: of(&self.right) }
+    }
+
+    /// How many points have a place and are counted.
+    pub fn placed(&self) -> usize {
+        self.points.min(self.steps.len() as u32) as usize
     }
 }
 
@@ -201,6 +209,7 @@ pub fn plan_of(draft: &Draft) -> Plan {
         buckets: draft.buckets.len() as u32,
         delay: draft.delay,
         horizon: draft.horizon,
+        points: draft.points.len() as u32,
         ..Plan::default()
     };
     for (i, (at, allowance)) in draft.thresholds.iter().take(10).enumerate() {
@@ -211,7 +220,20 @@ pub fn plan_of(draft: &Draft) -> Plan {
         p.left[j] = *left;
         p.right[j] = *right;
     }
+    for (j, (step, share)) in draft.points.iter().take(8).enumerate() {
+        p.steps[j] = *step;
+        p.shares[j] = *share;
+    }
     p
+}
+
+/// The points that a plan counts; of those that have no place one stands for all, as zeros.
+fn points_of(p: &Plan) -> Vec<(u32, u32)> {
+    let mut out: Vec<(u32, u32)> = p.steps.into_iter().zip(p.shares).take(p.placed()).collect();
+    if p.points as usize > out.len() {
+        out.push((0, 0));
+    }
+    out
 }
 
 /// The draft that a plan holds, where its counts keep rule 1.
@@ -225,5 +247,6 @@ pub fn draft_of(p: &Plan) -> Option<Draft> {
         delay: p.delay,
         horizon: p.horizon,
         buckets: (0..b).map(|j| (p.left[j], p.right[j])).collect(),
+        points: points_of(p),
     })
 }

@@ -2,9 +2,10 @@
 //! independent of `boundary`.
 
 use crate::choices::Choice;
-use crate::host::{draft_of, Plan, Record, Report, State};
+use crate::host::{draft_of, Plan, Record, Report, State, Written};
 use crate::host::{ABOVE, AT_MOST, CROSSED, DECIDED, OPEN, REFUSED, SPENT, WIDE};
-use crate::plan::{read, MILLION, WHOLE};
+use crate::misspent::Misspent;
+use crate::plan::{MILLION, WHOLE};
 
 /// Words of a part.
 pub const PART: usize = 769;
@@ -76,6 +77,8 @@ pub enum Fault {
     RoundedSigned,
     /// Masses rounded judged before this refusal.
     RoundedBefore(u32),
+    /// Another spending.
+    Spending(Misspent),
 }
 
 /// Mistakes in counting masses rounded, and in judging them.
@@ -93,12 +96,41 @@ pub const JUDGING: [Fault; 4] =
 pub fn plan_refusal(p: &Plan) -> u32 {
     match draft_of(p) {
         None => 1,
-        Some(draft) => read(&draft.store()).err().unwrap_or(0) as u32,
+        Some(draft) => draft.plan().refusal().unwrap_or(0) as u32,
     }
 }
 
+/// What a writing hands back; the bytes are changed in place.
+pub fn write_plan(p: &Plan, lent: &mut [u8]) -> Written {
+    let form = draft_of(p).map_or(vec![], |draft| draft.store());
+    let refusal = match plan_refusal(p) {
+        0 if p.points > 0 => 17,
+        0 if lent.len() < form.len() => 12,
+        number => number,
+    };
+    if refusal > 0 {
+        return Written { refusal, size: 0 };
+    }
+    lent[..form.len()].copy_from_slice(&form);
+    Written { refusal, size: form.len() }
+}
+
 pub fn spending(p: &Plan, i: usize, n: u32) -> u128 {
-    p.allowances[i] as u128 * n as u128 / (n as u128 + p.delay as u128)
+    let allowance = p.allowances[i] as u128;
+    let steps = &p.steps[..p.placed()];
+    if steps.is_empty() {
+        return allowance * n as u128 / (n as u128 + p.delay as u128);
+    }
+    // Steps rise: so many points are at or before n.
+    let come = steps.partition_point(|step| *step <= n);
+    come.checked_sub(1).map_or(0, |last| allowance * p.shares[last] as u128 / MILLION)
+}
+
+fn spending_with(p: &Plan, i: usize, n: u32, fault: Fault) -> u128 {
+    match fault {
+        Fault::Spending(misspent) => misspent.spending(p, i, n),
+        _ => spending(p, i, n),
+    }
 }
 
 fn apart(r: &Record) -> i128 {
@@ -184,7 +216,7 @@ pub fn slacks(p: &Plan, s: &State, words: &[u64], fault: Fault) -> [Option<i128>
             note(3, n - r.step as i128);
             continue;
         }
-        let limit = spending(p, i, s.n) as i128;
+        let limit = spending_with(p, i, s.n, fault) as i128;
         let live = live(r, &words[PART * i..PART * (i + 1)]);
         let mass: u128 = live.iter().map(|w| *w as u128).sum::<u128>() + r.over as u128 + r.under as u128;
         note(4, r.lower as i128 + 1);
@@ -305,7 +337,7 @@ fn turn(p: &Plan, s: &mut State, words: &mut [u64], fault: Fault) {
             continue;
         }
         let before = r.rounded;
-        walk(p.thresholds[i] as u128, spending(p, i, s.n), s.n as i64, r, part, fault);
+        walk(p.thresholds[i] as u128, spending_with(p, i, s.n, fault), s.n as i64, r, part, fault);
         let step = s.n - (fault == Fault::MarkOfStepBefore) as u32;
         if s.ones as i64 >= r.upper as i64 {
             (r.mark, r.step) = (ABOVE, step);

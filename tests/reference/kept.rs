@@ -143,6 +143,7 @@ fn stored_plan(bytes: &[u8]) -> (u32, Option<Plan>) {
         delay: of.delay as u32,
         horizon: of.horizon as u32,
         buckets: of.buckets.iter().map(|b| (b.left as u32, b.right as u32)).collect(),
+        points: Vec::new(),
     };
     let refusal = plan::read(bytes).err().unwrap_or(0) as u32;
     (refusal, plan::parsed(bytes).ok().map(|of| plan_of(&draft(of))))

@@ -2,6 +2,7 @@
 
 mod agreement;
 mod any_plan;
+mod any_points;
 mod big;
 mod boundary;
 mod calls;
@@ -30,11 +31,19 @@ mod lapses;
 mod limits;
 mod lines;
 mod met;
+mod misjudged;
+mod misspent;
 mod narrower;
 mod orders;
 mod outcomes;
 mod overlap;
 mod plan;
+mod point_draws;
+mod point_facts;
+mod point_limits;
+mod point_plans;
+mod point_tests;
+mod points;
 mod random;
 mod rng;
 mod rounding;
@@ -68,6 +77,7 @@ const USAGE: &str = "usage: reference COMMAND
   damaged               what the example in C made of damaged files, as tests/shuffle kept them, against the reference
   gandy [--seed N]      the library's boundaries and the mean draws beside the published ones
   narrower [--seed N]   the library's bucket where several contain the interval, against the reference
+  points [--seed N]     the library's entries and tests under plans that spend by points, against the reference
   rounding [--seed N]   the library's new masses and masses rounded, where sums leave chosen remainders, against the
                         reference
   saved [--seed N]      the library's tests written as bytes and read back, against the reference
@@ -123,6 +133,7 @@ fn main() {
         }
         "gandy" => gandy::run(seed()),
         "narrower" => narrower::run(seed()),
+        "points" => points::run(seed()),
         "rounding" => rounding::run(seed()),
         "saved" => saved::run(seed()),
         "spoiled" => spoiled::run(seed()),

@@ -6,8 +6,10 @@ pub const MILLION: u128 = 1_000_000;
 pub const LARGEST_ALLOWANCE: u64 = 2_199_023_255_551;
 /// Neighbouring thresholds differ by this or more.
 pub const LEAST_APART: u32 = 100;
+/// A plan has at most so many points.
+pub const MOST_POINTS: usize = 8;
 /// The rules' numbers, as they are judged.
-const ORDER: [u8; 7] = [1, 2, 14, 3, 4, 5, 6];
+pub const ORDER: [u8; 8] = [1, 2, 14, 3, 4, 16, 5, 6];
 
 #[derive(Clone, Debug, PartialEq)]
 pub struct Threshold {
@@ -21,12 +23,21 @@ pub struct Bucket {
     pub right: u128,
 }
 
+/// From its step on a share of each allowance, in millionths, may be spent.
+#[derive(Clone, Debug, PartialEq)]
+pub struct Point {
+    pub step: u128,
+    pub share: u128,
+}
+
 #[derive(Clone, Debug, PartialEq)]
 pub struct Plan {
     pub thresholds: Vec<Threshold>,
     pub buckets: Vec<Bucket>,
     pub delay: u128,
     pub horizon: u128,
+    /// With none, spending goes by the delay.
+    pub points: Vec<Point>,
 }
 
 /// An exact fraction, for the points p that matter to rule 6.
@@ -94,6 +105,12 @@ impl Plan {
         self.delay < 1 || self.delay > 65_535 || self.horizon < 1 || self.horizon > 50_000
     }
 
+    fn points_bad(&self) -> bool {
+        let out = |point: &Point| !(1..=self.horizon).contains(&point.step) || point.share > MILLION;
+        let rises = |pair: &[Point]| pair[0].step < pair[1].step && pair[0].share <= pair[1].share;
+        self.points.len() > MOST_POINTS || self.points.iter().any(out) || !self.points.windows(2).all(rises)
+    }
+
     fn end_permitted(&self, end: u128) -> bool {
         end == 0 || end == MILLION || self.thresholds.iter().any(|t| t.at == end)
     }
@@ -129,6 +146,7 @@ impl Plan {
             5 => self.bucket_bad(),
             6 => self.p_uncovered(),
             14 => self.thresholds_close(),
+            16 => self.points_bad(),
             other => panic!("{other} is no rule"),
         }
     }
@@ -175,6 +193,7 @@ pub fn parsed(stored: &[u8]) -> Result<Plan, u8> {
             .collect(),
         delay: number(stored, 8, 4),
         horizon: number(stored, 12, 4),
+        points: Vec::new(),
     })
 }
 

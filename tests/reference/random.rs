@@ -135,7 +135,7 @@ fn crossing_draft(rng: &mut Rng) -> Draft {
     }
     rng.shuffle(&mut buckets);
     let delay = rng.scale(1, 300) as u32;
-    Draft { thresholds, delay, horizon: rng.range(700, 50_000) as u32, buckets }
+    Draft { thresholds, delay, horizon: rng.range(700, 50_000) as u32, buckets, points: Vec::new() }
 }
 
 /// The mirror image: the plan for 1 - p.
@@ -144,14 +144,15 @@ fn mirrored(draft: &Draft) -> Draft {
     Draft {
         thresholds: draft.thresholds.iter().rev().map(|t| (turn(t.0), t.1)).collect(),
         buckets: draft.buckets.iter().map(|b| (turn(b.1), turn(b.0))).collect(),
+        points: draft.points.clone(),
         ..*draft
     }
 }
 
 /// Crossing: zeros until the inner threshold is at most; then ones until the far one is above. Or all of it mirrored.
-fn crossed_run(rng: &mut Rng) -> Case {
+pub fn crossing_run(rng: &mut Rng, points: &[(u32, u32)]) -> (Draft, Vec<bool>) {
     let upward = rng.chance(1, 2);
-    let mut draft = crossing_draft(rng);
+    let mut draft = Draft { points: points.to_vec(), ..crossing_draft(rng) };
     let mut inner = 1; // its place in the plan
     if upward {
         draft = mirrored(&draft);
@@ -162,6 +163,11 @@ fn crossed_run(rng: &mut Rng) -> Case {
         let settled = test.marks[inner] != Mark::Open;
         (settled ^ upward) ^ (noise > 0 && rng.chance(1, noise))
     });
+    (draft, draws)
+}
+
+fn crossed_run(rng: &mut Rng) -> Case {
+    let (draft, draws) = crossing_run(rng, &[]);
     case(rng, "crossed", &draft, &draws)
 }
 
@@ -173,6 +179,7 @@ fn rounding_run(rng: &mut Rng) -> Case {
         delay: rng.scale(1, 30) as u32,
         horizon: 2000,
         buckets: two_buckets(at),
+        points: Vec::new(),
     };
     let style = Style::Hug { upper: rng.chance(1, 2), release: rng.range(200, 500) };
     let draws = steer(rng, &draft, 600, style);

@@ -20,7 +20,7 @@ use crate::wrong::Wrong;
 pub const OTHER_DRAWS: [u32; 7] = [2, 255, 256, 257, 1 << 31, (1 << 31) + 1, u32::MAX];
 
 /// Draws to be carried, other values among them, and some after the end.
-fn mixed(rng: &mut Rng, draws: Vec<bool>) -> Vec<u32> {
+pub fn mixed(rng: &mut Rng, draws: Vec<bool>) -> Vec<u32> {
     let often = rng.pick(&[0, 5, 30]);
     let more: Vec<bool> = (0..4).map(|_| rng.chance(1, 2)).collect();
     let mut out = Vec::new();

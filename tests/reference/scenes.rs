@@ -47,6 +47,20 @@ fn garbage(rng: &mut Rng) -> Record {
     }
 }
 
+/// Anything in the places past the points, at times what could be points.
+pub fn past_points(rng: &mut Rng, plan: &mut Plan) {
+    let any = rng.chance(1, 3);
+    let (mut step, mut share) = match plan.placed() {
+        0 => (0, 0),
+        placed => (plan.steps[placed - 1], plan.shares[placed - 1]),
+    };
+    for j in plan.placed()..plan.steps.len() {
+        step = if any { rng.next() as u32 } else { step.wrapping_add(rng.scale(1, 200) as u32) };
+        share = if any { rng.next() as u32 } else { rng.range(share as u64, share.max(1_000_000) as u64) as u32 };
+        (plan.steps[j], plan.shares[j]) = (step, share);
+    }
+}
+
 /// Anything in the places past the counts; a threshold at times close to the one before.
 pub fn plan_past_counts(rng: &mut Rng, plan: &mut Plan) {
     for i in plan.count as usize..10 {
@@ -58,6 +72,8 @@ pub fn plan_past_counts(rng: &mut Rng, plan: &mut Plan) {
         plan.left[j] = rng.next() as u32;
         plan.right[j] = rng.next() as u32;
     }
+    // From numbers of their own.
+    past_points(&mut Rng::new(plan.allowances[9], 900), plan);
 }
 
 pub fn good_plan(rng: &mut Rng) -> Plan {
@@ -115,6 +131,11 @@ pub fn made_up(rng: &mut Rng, plan: Plan) -> Scene {
 pub fn made_up_with(rng: &mut Rng, plan: Plan, marks: &[u32; 10]) -> Scene {
     let last = plan.horizon as u64 - 1;
     let n = if rng.chance(1, 4) { last } else { rng.range(0, last) };
+    made_up_at(rng, plan, marks, n)
+}
+
+/// The same, after n draws.
+pub fn made_up_at(rng: &mut Rng, plan: Plan, marks: &[u32; 10], n: u64) -> Scene {
     let ones = rng.pick(&[0, n, n / 2, n / 2]);
     let mut state = State { n: n as u32, ones: ones as u32, ..State::default() };
     let mut words = vec![0; PART * plan.count as usize];

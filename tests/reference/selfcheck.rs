@@ -1,7 +1,8 @@
 //! The reference held to the rules' own examples and facts; no program is needed.
 
 use crate::agreement;
-use crate::boundary::{spending, Literal, Quick, Slip, WIDE};
+use crate::any_points::points_of_number;
+use crate::boundary::{spending, By, Literal, Quick, Slip, WIDE};
 use crate::case::{Case, Feed};
 use crate::chances;
 use crate::damaged::{damaged_case, DAMAGED_RUNS};
@@ -11,7 +12,8 @@ use crate::host::Record;
 use crate::judge::{self, Fault};
 use crate::lapses::{lapses, Judged, Lapse};
 use crate::lines::kind_of_line;
-use crate::plan::{read, LARGEST_ALLOWANCE, WHOLE};
+use crate::plan::{read, LARGEST_ALLOWANCE, MOST_POINTS, WHOLE};
+use crate::point_facts::by_points;
 use crate::random::{random_case, CROSSED_FROM, CROSSED_RUNS};
 use crate::rng::Rng;
 use crate::runner::start;
@@ -143,9 +145,9 @@ fn judged_same(record: &Record, words: &[u64], literal: &Literal) -> bool {
 }
 
 /// The quick boundaries and those of `judge` against the literal ones, and the facts said to hold at every step.
-fn facts_of(report: &mut Report, at: u128, allowance: u128, delay: u128, steps: u128) -> Quick {
-    let mut literal = Literal::begin(at, allowance, delay);
-    let mut quick = Quick::begin(at, allowance, delay, Slip::None);
+fn facts_of(report: &mut Report, at: u128, allowance: u128, by: By, steps: u128) -> Quick {
+    let mut literal = Literal::begin(at, allowance, by.clone());
+    let mut quick = Quick::begin(at, allowance, by.clone(), Slip::None);
     let mut record = judge::FIRST;
     // More than `WIDE`, for a walk past a wide step.
     let mut words = vec![0; steps as usize + 2];
@@ -155,7 +157,8 @@ fn facts_of(report: &mut Report, at: u128, allowance: u128, delay: u128, steps: 
         let (upper, lower) = (quick.upper, quick.lower);
         literal.advance();
         quick.advance();
-        judge::walk(at, spending(allowance, delay, t), t as i64, &mut record, &mut words, Fault::None);
+        let limit = by.spending(allowance, t);
+        judge::walk(at, limit, t as i64, &mut record, &mut words, Fault::None);
         let live: u128 = literal.mass.values().sum();
         let all = live + literal.spent_above + literal.spent_below;
         good &= quick.agrees(&literal)
@@ -166,10 +169,10 @@ fn facts_of(report: &mut Report, at: u128, allowance: u128, delay: u128, steps: 
             && all >= WHOLE
             && all <= WHOLE + literal.rounded as u128
             && literal.rounded <= WIDE as u64 * t as u64
-            && literal.spent_above <= spending(allowance, delay, t)
-            && literal.spent_below <= spending(allowance, delay, t);
+            && literal.spent_above <= limit
+            && literal.spent_below <= limit;
     }
-    report.check(&format!("facts for threshold {at}, allowance {allowance}, delay {delay}"), good);
+    report.check(&format!("facts for threshold {at}, allowance {allowance}, by {by:?}"), good);
     quick
 }
 
@@ -180,10 +183,14 @@ fn facts(report: &mut Report, seed: u64) {
         let at = rng.pick(&[1, 500, 50_000, 400_000, 500_000, 999_999, any]) as u128;
         let allowance = rng.scale(1, LARGEST_ALLOWANCE) as u128;
         let delay = rng.scale(1, 65_535) as u128;
-        facts_of(report, at, allowance, delay, if round < 4 { 400 } else { 150 });
+        let steps = if round < 4 { 400 } else { 150 };
+        facts_of(report, at, allowance, By::Delay(delay), steps);
+        let count = rng.range(1, MOST_POINTS as u64) as usize;
+        let points = points_of_number(rng, count, steps as u32);
+        facts_of(report, at, allowance, by_points(&points), steps);
     }
-    facts_of(report, 50_000, 4_398_046_511, 1000, 2000);
-    let spread = facts_of(report, 500_000, 1, 1, 800);
+    facts_of(report, 50_000, 4_398_046_511, By::Delay(1000), 2000);
+    let spread = facts_of(report, 500_000, 1, By::Delay(1), 800);
     report.check("passes wide", spread.upper - spread.lower - 1 > WIDE);
 }
 

@@ -1,6 +1,6 @@
 //! The sequential test over a plan, and the program's line.
 
-use crate::boundary::{Literal, Quick, Slip, WIDE};
+use crate::boundary::{By, Literal, Quick, Slip, WIDE};
 use crate::plan::{read, Bucket, Plan, MILLION};
 
 #[derive(Clone, Copy, Debug, PartialEq)]
@@ -49,8 +49,8 @@ impl<'a> Test<'a> {
             marks: each().map(|_| Mark::Open).collect(),
             draws: 0,
             ones: 0,
-            boundaries: each().map(|t| Quick::begin(t.at, t.allowance, plan.delay, slip)).collect(),
-            literal: each().map(|t| Literal::begin(t.at, t.allowance, plan.delay)).collect(),
+            boundaries: each().map(|t| Quick::begin(t.at, t.allowance, By::from(plan), slip)).collect(),
+            literal: each().map(|t| Literal::begin(t.at, t.allowance, By::from(plan))).collect(),
             slip,
             judged_by: vec![(1, -1); plan.thresholds.len()],
         }

@@ -69,19 +69,13 @@ fn compare_report(tally: &mut Tally, scene: &Scene) {
 
 /// Writes into lent bytes of about the form's length.
 fn compare_stored(tally: &mut Tally, rng: &mut Rng, plan: Plan) {
-    let bad = judge::plan_refusal(&plan);
     let form = draft_of(&plan).map_or(vec![], |draft| draft.store());
     for len in [0, form.len().saturating_sub(1), form.len(), form.len() + 1, 400] {
-        let lent: Vec<u8> = (0..len).map(|_| rng.next() as u8).collect();
-        let refusal = if bad == 0 && len < form.len() { 12 } else { bad };
-        let mut expected = lent.clone();
-        if refusal == 0 {
-            expected[..form.len()].copy_from_slice(&form);
-        }
-        let mut bytes = lent;
+        let mut bytes: Vec<u8> = (0..len).map(|_| rng.next() as u8).collect();
+        let mut expected_bytes = bytes.clone();
         let got = host::write_plan(plan, &mut bytes);
-        let size = if refusal == 0 { form.len() } else { 0 };
-        let same = got == host::Written { refusal, size } && bytes == expected;
+        let expected = judge::write_plan(&plan, &mut expected_bytes);
+        let same = got == expected && bytes == expected_bytes;
         tally.note("write_plan", kind_of_refusal(got.refusal), same, || format!("{len} bytes: {got:?}: {plan:?}"));
     }
     compare_read(tally, rng, &plan, form);

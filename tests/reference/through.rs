@@ -153,11 +153,15 @@ pub fn go_on(rows: &mut Rows, rng: &mut Rng, scene: &Scene, read: &Scene) {
     }
 }
 
-/// Carried from its beginning past its end, with saves between the draws; beside it the one that is never saved.
 pub fn carry(rows: &mut Rows, rng: &mut Rng, place: u64) {
     let (draft, draws) = any_run(rng, place);
     let plan = past_counts(rng, &draft);
-    let lent = vec![rng.next(); PART * draft.thresholds.len()];
+    carry_under(rows, rng, plan, draws);
+}
+
+/// Carried from its beginning past its end, with saves between the draws; beside it the one that is never saved.
+pub fn carry_under(rows: &mut Rows, rng: &mut Rng, plan: Plan, draws: Vec<u32>) {
+    let lent = vec![rng.next(); PART * plan.count as usize];
     let mut scene = Scene { plan, state: State::default(), words: lent, draw: 0 };
     scene.state = judge::begin(&plan, &mut scene.words);
     let mut saved = scene.clone();
