@@ -73,11 +73,11 @@ refusalOf11 m rounded =
     (record { mark = m; walked = record { lower = negsuc 0; upper = 3; over = 0; under = 0; rounded = rounded } })
     (3969236976272 ∷ 417814418556 ∷ 10995116278 ∷ [])) 11)
 
--- .. and of a plan with points
+-- the boundaries of step t of the plan with two points
 abbrev boundariesOfPoints : ℕ → List ℤ
 boundariesOfPoints = boundaries (thresholdAt planOfPoints 0) (spendingOf planOfPoints 0)
 
--- the threshold 100,000 with one point, the whole allowance at step 30: its upper boundary of step t
+-- the threshold 100,000 with one point, the whole allowance at step 30: its upper boundary of step t, on the row, which computes faster
 abbrev upperOfOnePoint : ℕ → ℤ
 upperOfOnePoint t = pos (upper (rows 100000 (spendingOf (withPoints 2199023255551 1000 40 100000 (30 ∷ []) (1000000 ∷ [])) 0) t))
 

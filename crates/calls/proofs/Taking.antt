@@ -117,7 +117,6 @@ module _ (p : Plan) (bytes : List ℕ) (d : ℕ) (good : planRefusal p ≡ 0) (f
       few = ok .count-range .1;
       allowed = λ i l. ok .allowance-range i l .1;
       spendable = portion-fits p ok (suc (s .n)) (omega (arith, in-time));
-      early = omega (arith, in-time);
       form = form-held p bytes form;
       may = λ i l. rw (record-held p bytes (ok .count-range .1) i l, part-held p bytes i l, portion-spends p i (suc (s .n))) at (all-may-turn p s ws good fits goes-on sound i l);
     }

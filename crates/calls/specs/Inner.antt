@@ -6,7 +6,7 @@ use mathlib.Core.List.{List, [], _∷_, _++_}
 use Prim.Native.Nat.{ℕ, suc, _≤_, _<_}
 use lib.ListN.{getD}
 use Rattle.walk.specs.Numbers.{only, choose}
-use Rattle.walk.specs.Units.{million, allowanceLimit, horizonLimit}
+use Rattle.walk.specs.Units.{million, allowanceLimit}
 use Rattle.walk.specs.Spending.{portioned}
 use Rattle.walk.specs.declared.Portion.{Portion}
 use Rattle.walk.specs.Strings.{Upper, Lower, isOn}
@@ -59,8 +59,7 @@ module _ (thresholds allowances : List ℕ) (count : ℕ) (portion : Portion) (n
   pub record Turns : Type 0 where
     pub few : count ≤ countLimit
     pub allowed : (i : ℕ) → i < count → getD allowances i 0 ≤ allowanceLimit
-    pub spendable : (portion .parts ≤ million) × (1 ≤ portion .whole)
-    pub early : n ≤ horizonLimit
+    pub spendable : (portion .numerator ≤ million) × (1 ≤ portion .denominator)
     pub form : RecordsAndMasses count bytes
     pub may : (i : ℕ) → i < count
         → MayTurn (getD thresholds i 0) (portioned portion (getD allowances i 0)) (recordIn bytes i .mark) (recordIn bytes i) (partIn bytes count i)

@@ -72,16 +72,16 @@ module _ (p : Plan) where
         zero-or-more (suc n) = inr (omega arith)
 
     -- what the code asks of it
-    pub portion-fits : (n : ℕ) → n ≤ horizonLimit → (portionOf p n .parts ≤ million) × (1 ≤ portionOf p n .whole)
+    pub portion-fits : (n : ℕ) → n ≤ horizonLimit → (portionOf p n .numerator ≤ million) × (1 ≤ portionOf p n .denominator)
     unfolding portionOf horizonLimit million
     portion-fits n early = go (eq? (p .points) 0) _ (share-most (stepAt p) (shareAt p) million (p .points) n (ok .points-sound .share-range))
       where
-        go : (b : Bool) (share : ℕ) → share ≤ million → (portionBy b (p .delay) share n .parts ≤ million) × (1 ≤ portionBy b (p .delay) share n .whole)
+        go : (b : Bool) (share : ℕ) → share ≤ million → (portionBy b (p .delay) share n .numerator ≤ million) × (1 ≤ portionBy b (p .delay) share n .denominator)
         go true share few = (omega arith, omega (arith, ok .delay-range .0))
         go false share few = (few, omega arith)
 
     pub may-spend : (i n : ℕ) → i < p .count → n ≤ horizonLimit → (q : Portion) → q ≡ portionOf p n
-        → (allowanceAt p i ≤ allowanceLimit) × (q .parts ≤ million) × (1 ≤ q .whole)
+        → (allowanceAt p i ≤ allowanceLimit) × (q .numerator ≤ million) × (1 ≤ q .denominator)
     may-spend i n l early q portion = let k = portion-fits n early in (ok .allowance-range i l .1, rw portion (k .0), rw portion (k .1))
 
 pub spending-theorem : SpendingTheorem

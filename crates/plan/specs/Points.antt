@@ -14,7 +14,7 @@ module _ (step share : ℕ → ℕ) where
   shareBy zero n = 0
   shareBy (suc points) n = choose (le? (step points) n) (share points) (shareBy points n)
 
--- the point at place j is the last of so many at or before n
+-- the point at place j is the last, by place, of so many at or before n; where steps rise, it is the last by step too
 pub record LastPoint (step : ℕ → ℕ) (points n j : ℕ) : Type 0 where
   pub counted : j < points
   pub reached : step j ≤ n

@@ -26,8 +26,8 @@ planWith count buckets delay horizon points thresholds allowances left right ste
 
 -- n / (n + k) without points, the share in millionths with them
 abbrev pub portionBy : Bool → ℕ → ℕ → ℕ → Portion
-portionBy true delay share n = record { parts = n; whole = n + delay }
-portionBy false delay share n = record { parts = share; whole = million }
+portionBy true delay share n = record { numerator = n; denominator = n + delay }
+portionBy false delay share n = record { numerator = share; denominator = million }
 
 unfoldable pub portionOf : Plan → ℕ → Portion
 portionOf p n = portionBy (eq? (p .points) 0) (p .delay) (shareBy (stepAt p) (shareAt p) (p .points) n) n

@@ -42,16 +42,19 @@ withPoints allowance delay horizon end steps shares = record {
 }
 
 -- .. with the largest allowance, k 1000, N 10 and buckets up to and above the threshold
-abbrev pub pointsOf : List ℕ → List ℕ → Plan
-pointsOf = withPoints 2199023255551 1000 10 100000
+abbrev largest : ℕ
+largest = 2199023255551
+
+abbrev pub pointedPlan : List ℕ → List ℕ → Plan
+pointedPlan = withPoints largest 1000 10 100000
 
 -- a tenth of the allowance from step 1 on, four tenths from step 2 on
 unfoldable pub planOfPoints : Plan
-planOfPoints = pointsOf (1 ∷ 2 ∷ []) (100000 ∷ 400000 ∷ [])
+planOfPoints = pointedPlan (1 ∷ 2 ∷ []) (100000 ∷ 400000 ∷ [])
 
 -- nothing before step 4, and equal shares at steps 4 and 6
 abbrev latePoints : Plan
-latePoints = pointsOf (4 ∷ 6 ∷ 10 ∷ []) (250000 ∷ 250000 ∷ 1000000 ∷ [])
+latePoints = pointedPlan (4 ∷ 6 ∷ 10 ∷ []) (250000 ∷ 250000 ∷ 1000000 ∷ [])
 
 -- the allowance of plan F, a thousandth of the whole
 abbrev thousandth : ℕ
@@ -92,35 +95,36 @@ computed =
 
 unfoldable pub computedOfPoints : List ℕ
 computedOfPoints =
-    -- two points, none, eight, nine
+    -- two points, none, eight, nine, of which the ninth has a place, so that only their number is at fault
     planRefusal planOfPoints
-    ∷ planRefusal (pointsOf [] [])
-    ∷ planRefusal (pointsOf (1 ∷ 2 ∷ 3 ∷ 4 ∷ 5 ∷ 6 ∷ 7 ∷ 8 ∷ []) (1 ∷ 2 ∷ 3 ∷ 4 ∷ 5 ∷ 6 ∷ 7 ∷ 8 ∷ []))
-    ∷ planRefusal (pointsOf (1 ∷ 2 ∷ 3 ∷ 4 ∷ 5 ∷ 6 ∷ 7 ∷ 8 ∷ 9 ∷ []) (1 ∷ 2 ∷ 3 ∷ 4 ∷ 5 ∷ 6 ∷ 7 ∷ 8 ∷ 9 ∷ []))
+    ∷ planRefusal (pointedPlan [] [])
+    ∷ planRefusal (pointedPlan (1 ∷ 2 ∷ 3 ∷ 4 ∷ 5 ∷ 6 ∷ 7 ∷ 8 ∷ []) (1 ∷ 2 ∷ 3 ∷ 4 ∷ 5 ∷ 6 ∷ 7 ∷ 8 ∷ []))
+    ∷ planRefusal (pointedPlan (1 ∷ 2 ∷ 3 ∷ 4 ∷ 5 ∷ 6 ∷ 7 ∷ 8 ∷ 9 ∷ []) (1 ∷ 2 ∷ 3 ∷ 4 ∷ 5 ∷ 6 ∷ 7 ∷ 8 ∷ 9 ∷ []))
     -- a step of 0, of N, of N + 1
-    ∷ planRefusal (pointsOf (0 ∷ []) (1 ∷ []))
-    ∷ planRefusal (pointsOf (10 ∷ []) (1 ∷ []))
-    ∷ planRefusal (pointsOf (11 ∷ []) (1 ∷ []))
+    ∷ planRefusal (pointedPlan (0 ∷ []) (1 ∷ []))
+    ∷ planRefusal (pointedPlan (10 ∷ []) (1 ∷ []))
+    ∷ planRefusal (pointedPlan (11 ∷ []) (1 ∷ []))
     -- steps that are equal, that fall, and the last two of eight equal
-    ∷ planRefusal (pointsOf (2 ∷ 2 ∷ []) (1 ∷ 2 ∷ []))
-    ∷ planRefusal (pointsOf (2 ∷ 1 ∷ []) (1 ∷ 2 ∷ []))
-    ∷ planRefusal (pointsOf (1 ∷ 2 ∷ 3 ∷ 4 ∷ 5 ∷ 6 ∷ 7 ∷ 7 ∷ []) (1 ∷ 2 ∷ 3 ∷ 4 ∷ 5 ∷ 6 ∷ 7 ∷ 8 ∷ []))
+    ∷ planRefusal (pointedPlan (2 ∷ 2 ∷ []) (1 ∷ 2 ∷ []))
+    ∷ planRefusal (pointedPlan (2 ∷ 1 ∷ []) (1 ∷ 2 ∷ []))
+    ∷ planRefusal (pointedPlan (1 ∷ 2 ∷ 3 ∷ 4 ∷ 5 ∷ 6 ∷ 7 ∷ 7 ∷ []) (1 ∷ 2 ∷ 3 ∷ 4 ∷ 5 ∷ 6 ∷ 7 ∷ 8 ∷ []))
     -- shares that are equal, that fall; a share of 0, of 1,000,000, of one more
-    ∷ planRefusal (pointsOf (1 ∷ 2 ∷ []) (5 ∷ 5 ∷ []))
-    ∷ planRefusal (pointsOf (1 ∷ 2 ∷ []) (5 ∷ 4 ∷ []))
-    ∷ planRefusal (pointsOf (1 ∷ []) (0 ∷ []))
-    ∷ planRefusal (pointsOf (1 ∷ []) (1000000 ∷ []))
-    ∷ planRefusal (pointsOf (1 ∷ []) (1000001 ∷ []))
+    ∷ planRefusal (pointedPlan (1 ∷ 2 ∷ []) (5 ∷ 5 ∷ []))
+    ∷ planRefusal (pointedPlan (1 ∷ 2 ∷ []) (5 ∷ 4 ∷ []))
+    ∷ planRefusal (pointedPlan (1 ∷ []) (0 ∷ []))
+    ∷ planRefusal (pointedPlan (1 ∷ []) (1000000 ∷ []))
+    ∷ planRefusal (pointedPlan (1 ∷ []) (1000001 ∷ []))
     -- a step of 0 with an allowance of 0, with a delay of 0, with a horizon of 0, and with an end that is not permitted
     ∷ planRefusal (withPoints 0 1000 10 100000 (0 ∷ []) (1 ∷ []))
-    ∷ planRefusal (withPoints 1 0 10 100000 (0 ∷ []) (1 ∷ []))
-    ∷ planRefusal (withPoints 1 1000 0 100000 (0 ∷ []) (1 ∷ []))
-    ∷ planRefusal (withPoints 1 1000 10 7 (0 ∷ []) (1 ∷ []))
-    -- sound points, and these
-    ∷ planRefusal (withPoints 1 0 10 100000 (1 ∷ []) (1 ∷ []))
-    ∷ planRefusal (withPoints 1 1000 10 7 (1 ∷ []) (1 ∷ []))
-    -- E at the start, before a first point, at it, between points, at the last (two points: bucket_test/specs/Trials)
-    ∷ spendingOf latePoints 0 0 ∷ spendingOf latePoints 0 3 ∷ spendingOf latePoints 0 4 ∷ spendingOf latePoints 0 5 ∷ spendingOf latePoints 0 6 ∷ spendingOf latePoints 0 9 ∷ spendingOf latePoints 0 10
+    ∷ planRefusal (withPoints largest 0 10 100000 (0 ∷ []) (1 ∷ []))
+    ∷ planRefusal (withPoints largest 1000 0 100000 (0 ∷ []) (1 ∷ []))
+    ∷ planRefusal (withPoints largest 1000 10 7 (0 ∷ []) (1 ∷ []))
+    -- a sound point, with a delay of 0, and with an end that is not permitted
+    ∷ planRefusal (withPoints largest 0 10 100000 (1 ∷ []) (1 ∷ []))
+    ∷ planRefusal (withPoints largest 1000 10 7 (1 ∷ []) (1 ∷ []))
+    -- E at the start, before a first point, at it, between points, at the last (of two points: bucket_test/specs/Trials)
+    ∷ spendingOf latePoints 0 0 ∷ spendingOf latePoints 0 3 ∷ spendingOf latePoints 0 4 ∷ spendingOf latePoints 0 5
+    ∷ spendingOf latePoints 0 6 ∷ spendingOf latePoints 0 9 ∷ spendingOf latePoints 0 10
     ∷ []
 
 unfoldable pub printed : List ℕ

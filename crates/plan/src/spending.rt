@@ -10,8 +10,8 @@ use crate::Plan;
 use walk::MILLION;
 use walk::Portion;
 
-// The share of the last of the first `points` of these points, of at most eight, at or before n; 0 before the first.
-fn share_at<'a>(
+// Of so many of these points, at most eight, the share of the last at or before n; 0 before the first.
+fn share_by<'a>(
     points: usize,
     steps: &'a [u32; POINT_LIMIT],
     shares: &'a [u32; POINT_LIMIT],
@@ -31,12 +31,12 @@ fn share_at<'a>(
 
 // The portion of each allowance that may have been spent after n draws without points: n / (n + k).
 pub fn portion_by_delay(delay: u32, n: u32) -> Portion
-    ensures { λ r. ⌜ r ≡ record { parts = n; whole = n + delay } ⌝ }
+    ensures { λ r. ⌜ r ≡ record { numerator = n; denominator = n + delay } ⌝ }
 {
     let draws = n as u64;
     Portion {
-        parts: draws,
-        whole: draws + delay as u64,
+        numerator: draws,
+        denominator: draws + delay as u64,
     }
 }
 
@@ -54,9 +54,9 @@ pub fn portion_at<'a>(
     if points == 0 {
         return portion_by_delay(delay, n);
     }
-    let share = share_at(points as usize, steps, shares, n);
+    let share = share_by(points as usize, steps, shares, n);
     Portion {
-        parts: share as u64,
-        whole: MILLION as u64,
+        numerator: share as u64,
+        denominator: MILLION as u64,
     }
 }

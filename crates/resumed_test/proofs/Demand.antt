@@ -246,33 +246,44 @@ module _ (p : Plan) (ok : Accepted p) (words : List ℕ) (size : length words �
         by-rule = rw (moved-draw d ms) (drawn-by-rule p (moved p words ms .state) (moved p words ms .words) d);
       }
 
-  together : (ms : List Move) → Lends p ms → Together ms
-  unfolding drawsOf Lends AnsweredOver Answered SavedSince
-  together [] lends =
+  -- at the beginning, after a draw, after a save
+  together-begun : Together []
+  unfolding drawsOf AnsweredOver Answered
+  together-begun =
       let z = carried-size p ok words size [] in
       record {
         alike = rw moved-none record { n-same = refl; ones-same = refl; record-same = λ i l. refl; masses-same = λ i l. refl; sizes = (z, z) };
         parts = rw moved-none (λ i l. inl refl);
         answered = ap (λ (o : Outcome). o .answer) moved-none ∙ demand-3 p ok words size [] .answered;
       }
-  together (Draw d ∷ ms) lends =
-      let t = together ms lends in
+
+  together-drawn : (d : ℕ) (ms : List Move) → Together ms → Together (Draw d ∷ ms)
+  unfolding drawsOf AnsweredOver SavedSince
+  together-drawn d ms t =
       let k = drawn-alike p _ _ _ _ (t .alike) d in
       record {
         alike = rw (moved-draw d ms, carried-draw d (drawsOf ms)) (k .alike);
         parts = rw (moved-draw d ms, carried-draw d (drawsOf ms)) (drawn-parts p _ _ _ _ (t .alike) d (SavedSince p words ms) (t .parts));
         answered = (answers d ms (k .answer-same), rw (moved-draw d ms, carried-draw d (drawsOf ms)) (k .answer-same), t .answered);
       }
-  together (Save bytes lent ∷ ms) lends =
-      let t = together ms (lends .2) in
+
+  together-saved : (bytes lent : List ℕ) (ms : List Move) → formLimit ≤ length bytes → length lent ≡ wide * p .count → Together ms → Together (Save bytes lent ∷ ms)
+  unfolding drawsOf AnsweredOver SavedSince
+  together-saved bytes lent ms room fits t =
       let s = moved p words ms .state in
       let ws = moved p words ms .words in
-      let z = reloaded-is p ok words size (drawsOf ms) s ws (t .alike) bytes lent (lends .0) (lends .1) in
+      let z = reloaded-is p ok words size (drawsOf ms) s ws (t .alike) bytes lent room fits in
       record {
         alike = rw (moved-save bytes lent ms, z .0, z .1) (back-alike p ok words size (drawsOf ms) s ws (t .alike));
         parts = rw (moved-save bytes lent ms, z .1) (back-parts p ok words size (drawsOf ms) s ws (t .alike) (SavedSince p words ms) (t .parts));
-        answered = (reload-none p ok words size (drawsOf ms) s ws (t .alike) bytes lent (lends .0) (lends .1), t .answered);
+        answered = (reload-none p ok words size (drawsOf ms) s ws (t .alike) bytes lent room fits, t .answered);
       }
+
+  together : (ms : List Move) → Lends p ms → Together ms
+  unfolding Lends
+  together [] lends = together-begun
+  together (Draw d ∷ ms) lends = together-drawn d ms (together ms lends)
+  together (Save bytes lent ∷ ms) lends = together-saved bytes lent ms (lends .0) (lends .1) (together ms (lends .2))
 
 -- what demand 3 says of the carried test, of the test at hand
 module _ (p : Plan) (ok : Accepted p) (words : List ℕ) (size : length words ≡ wide * p .count) (ms : List Move) (t : Together p ok words size ms) where

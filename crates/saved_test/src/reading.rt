@@ -290,7 +290,7 @@ fn parts_sound(
     n: u32,
     ones: u32,
 ) -> bool
-    requires { ⌜ (count ≤ countLimit) × ((i : ℕ) → i < count → getD (now allowances) i 0 ≤ allowanceLimit) × (portion .parts ≤ million) × (1 ≤ portion .whole)
+    requires { ⌜ (count ≤ countLimit) × ((i : ℕ) → i < count → getD (now allowances) i 0 ≤ allowanceLimit) × (portion .numerator ≤ million) × (1 ≤ portion .denominator)
         × RecordsAndMasses count (now bytes) ⌝ }
     ensures { λ r. ⌜ r ≡ allTo count (λ i. recordSound (portioned portion (getD (now (allowances .entry)) i 0)) n ones
         (recordIn (now (bytes .entry)) i .mark) (recordIn (now (bytes .entry)) i) (partIn (now (bytes .entry)) count i)) ⌝ }
@@ -317,7 +317,7 @@ pub fn state_sound_in(
     bytes: &[u8],
 ) -> bool
     requires { ⌜ (count ≤ countLimit) × ((i : ℕ) → i < count → getD (now allowances) i 0 ≤ allowanceLimit)
-        × (field 4 drawsField (now bytes) ≤ horizonLimit → (portion .parts ≤ million) × (1 ≤ portion .whole)) × (horizon ≤ horizonLimit)
+        × (field 4 drawsField (now bytes) ≤ horizonLimit → (portion .numerator ≤ million) × (1 ≤ portion .denominator)) × (horizon ≤ horizonLimit)
         × RecordsAndMasses count (now bytes) ⌝ }
     ensures { λ r. ⌜ ((p : Plan) → p .count ≡ count → p .allowances ≡ now (allowances .entry) → portionOf p (field 4 drawsField (now (bytes .entry))) ≡ portion
         → p .horizon ≡ horizon

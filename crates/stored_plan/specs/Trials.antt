@@ -5,7 +5,7 @@ use Prim.Native.Nat.{ℕ}
 use lib.ListN.{length, take, set, replicate}
 use Rattle.plan.specs.Plan.{countLimit, bucketLimit}
 use Rattle.plan.specs.PlanF.{planF}
-use Rattle.plan.specs.Trials.{pointsOf, planOfPoints}
+use Rattle.plan.specs.Trials.{pointedPlan, planOfPoints}
 use Rattle.stored_plan.specs.Form.{formSize, formLimit, encoded}
 use Rattle.stored_plan.specs.Reading.{noPlan, decoded}
 use Rattle.stored_plan.specs.Writing.{written, bytesAfter}
@@ -50,4 +50,4 @@ TrialsTheorem =
     × (written planF (replicate 46 9) ≡ record { refusal = 0; size = 44 }) × (bytesAfter planF (replicate 46 9) ≡ planFBytes ++ replicate 2 9)
     × (written noPlan [] ≡ record { refusal = 1; size = 0 })
     × (written planOfPoints [] ≡ record { refusal = 17; size = 0 }) × (written planOfPoints (replicate 44 9) ≡ record { refusal = 17; size = 0 })
-    × (bytesAfter planOfPoints (replicate 44 9) ≡ replicate 44 9) × (written (pointsOf (0 ∷ []) (1 ∷ [])) [] ≡ record { refusal = 16; size = 0 })
+    × (bytesAfter planOfPoints (replicate 44 9) ≡ replicate 44 9) × (written (pointedPlan (0 ∷ []) (1 ∷ [])) [] ≡ record { refusal = 16; size = 0 })

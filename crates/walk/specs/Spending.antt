@@ -12,6 +12,6 @@ pub record IsSpending (E : ℕ → ℕ) : Type 0 where
   pub rises : (n : ℕ) → E n ≤ E (suc n)
   pub half : (n : ℕ) → E n + E n < M
 
--- so many parts of the whole of an allowance, rounded down: what code computes, for inner contracts
+-- a portion of an allowance, rounded down: what code computes, for inner contracts
 abbrev pub portioned : Portion → ℕ → ℕ
-portioned q allowance = allowance * q .parts / q .whole
+portioned q allowance = allowance * q .numerator / q .denominator

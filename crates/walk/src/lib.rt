@@ -24,10 +24,10 @@ pub const HORIZON_LIMIT: u32 = 50000;
 
 pub const ALLOWANCE_LIMIT: u64 = 2199023255551;
 
-// The portion of its allowance that a side may have spent after some draws: so many parts of the whole.
+// The portion of its allowance that a side may have spent after some draws.
 pub struct Portion {
-    pub parts: u64,
-    pub whole: u64,
+    pub numerator: u64,
+    pub denominator: u64,
 }
 
 // How the draws stand to a threshold: open, or settled at a step (rules 6).

@@ -6,10 +6,10 @@ ghost use Prim.Native.Nat.{_≤_};
 ghost use Rattle.walk.specs.Units.{million, allowanceLimit};
 ghost use Rattle.walk.specs.Spending.{portioned};
 
-// E(n), of which a draw knows the portion, under an accepted plan, which keeps these bounds.
+// E(n) of this allowance, from the portion that may be spent, under an accepted plan, which keeps these bounds.
 pub fn spending_at(allowance: u64, portion: Portion) -> u64
-    requires { ⌜ (allowance ≤ allowanceLimit) × (portion .parts ≤ million) × (1 ≤ portion .whole) ⌝ }
+    requires { ⌜ (allowance ≤ allowanceLimit) × (portion .numerator ≤ million) × (1 ≤ portion .denominator) ⌝ }
     ensures { λ r. ⌜ r ≡ portioned portion allowance ⌝ }
 {
-    allowance * portion.parts / portion.whole
+    allowance * portion.numerator / portion.denominator
 }

@@ -111,7 +111,7 @@ returns-3 c =
     hands-10 (p s) _ _ _ (good s) (form (e .before)) (e .if2 .left) (sym (ended (c .before)) ∙ c .if3 .taken)
 
 -- without points the portion is by the delay
-by-delay : (s : tie.Start) (m : ℕ) → portionOf (p s) m ≡ record { parts = m; whole = m + p s .delay }
+by-delay : (s : tie.Start) (m : ℕ) → portionOf (p s) m ≡ record { numerator = m; denominator = m + p s .delay }
 unfolding portionOf eq?
 by-delay s m = refl
 

@@ -8,7 +8,6 @@ use native.Mathlib.Numerals.{add-one}
 use native.Mathlib.Omega.{arith}
 use borrow.Author.Needs.{needs}
 use lib.ListN.{getD}
-use Rattle.plan.specs.Tables.{planWith}
 use Rattle.plan.specs.declared.Plan.{Plan}
 use Rattle.bucket_choice.specs.Choice.{contains}
 use Rattle.bucket_choice.specs.Chosen.{Contains}
@@ -19,7 +18,19 @@ use Rattle.bucket_choice.proofs.choosing.chosen_bucket.Tie as tie
 
 -- one plan with these buckets: the choice is the same under all of them
 abbrev withBuckets : List ℕ → List ℕ → ℕ → Plan
-withBuckets lefts rights buckets = planWith 0 buckets 0 0 0 [] [] lefts rights [] []
+withBuckets lefts rights buckets = record {
+  count = 0;
+  buckets = buckets;
+  delay = 0;
+  horizon = 0;
+  points = 0;
+  thresholds = [];
+  allowances = [];
+  left = lefts;
+  right = rights;
+  steps = [];
+  shares = [];
+}
 
 abbrev Inv-loop : tie.InvT-loop
 Inv-loop lefts rights buckets low high place₀ j₀ place j = (j ≤ buckets) × Held (withBuckets lefts rights buckets) low high j place

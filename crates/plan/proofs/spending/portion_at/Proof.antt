@@ -14,8 +14,8 @@ returns : tie.Need-returns
 unfolding portionOf
 returns c p d k ts xs = c .portion-by-delay .ensures ∙ rw (eq?-complete (p .points) 0 (k ∙ c .before .if1 .taken), d) refl
 
-share-at-requires : tie.Need-share-at-requires
-share-at-requires c κs = search needs
+share-by-requires : tie.Need-share-by-requires
+share-by-requires c κs = search needs
 
 cast-t9 : tie.Need-cast-t9
 cast-t9 c = search needs
@@ -25,9 +25,9 @@ cast-t10 c = search needs
 
 returns-2 : tie.Need-returns-2
 unfolding portionOf million
-returns-2 c p d k ts xs = rw (eq?-fails (p .points) 0 (λ e. c .before .if1 .left (sym k ∙ e)), k, ts, xs, c .share-at .ensures) refl
+returns-2 c p d k ts xs = rw (eq?-fails (p .points) 0 (λ e. c .before .if1 .left (sym k ∙ e)), k, ts, xs, c .share-by .ensures) refl
 
 pub portion-at-spec : {M : Type 1} → statement M
 portion-at-spec =
     tie.close
-    (tie.spec portion-by-delay-requires returns share-at-requires cast-t9 cast-t10 returns-2)
+    (tie.spec portion-by-delay-requires returns share-by-requires cast-t9 cast-t10 returns-2)

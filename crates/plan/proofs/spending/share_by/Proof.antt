@@ -8,8 +8,8 @@ use borrow.Author.Needs.{needs}
 use lib.ListN.{getD}
 use Rattle.plan.specs.Points.{shareBy}
 use Rattle.plan.proofs.PointLaws.{share-reached, share-later}
-use Rattle.plan.proofs.spending.share_at.Statement.{statement}
-use Rattle.plan.proofs.spending.share_at.Tie as tie
+use Rattle.plan.proofs.spending.share_by.Statement.{statement}
+use Rattle.plan.proofs.spending.share_by.Tie as tie
 
 abbrev Inv-loop : tie.InvT-loop
 Inv-loop points steps shares n share₀ j₀ share j = (j ≤ points) × (share ≡ shareBy (λ i. getD steps i 0) (λ i. getD shares i 0) j n)
@@ -55,8 +55,8 @@ returns c =
     let ended : l .j ≡ c .before .before .args .points = omega (arith, l .inv .0, c .loop-test .left) in
     rw ended at (l .inv .1)
 
-pub share-at-spec : {M : Type 1} → statement M
-share-at-spec =
+pub share-by-spec : {M : Type 1} → statement M
+share-by-spec =
     tie.close
     (tie.spec
     Inv-loop
