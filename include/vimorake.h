@@ -50,7 +50,7 @@ uint32_t vimorake_draw(const uint8_t *plan, size_t plan_size, const uint8_t *sav
    - The lent bytes may overlap neither the saved bytes nor the plan's. Two buffers, lent in turn, are enough.
    - Any bytes, any sizes and any draw may be handed in. Each pointer leads to as many bytes as its size says, at any alignment; none is null.
    - They keep no state and use no heap, and may run side by side on different lent bytes.
-   - They need some 7,000 bytes of stack (on x86-64 a draw's own frame has 6,616). */
+   - They need some 7,000 bytes of stack (on x86-64 a draw's own frame has 6,632). */
 
 static inline uint32_t vimorake_number_at(const uint8_t *form, size_t offset) { /* of 4 bytes, little-endian */
     return (uint32_t)form[offset] | (uint32_t)form[offset + 1] << 8 | (uint32_t)form[offset + 2] << 16 | (uint32_t)form[offset + 3] << 24;
