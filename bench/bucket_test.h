@@ -1,7 +1,4 @@
 /* What the yardsticks share: the plan's rules, the walk, the answer, what a spoiled state is, and a step of a test. */
-#ifndef BUCKET_TEST_H
-#define BUCKET_TEST_H
-
 #include <stdint.h>
 #include <string.h>
 
@@ -213,5 +210,3 @@ static void take(const struct plan *p, struct state *s, uint64_t *words, uint32_
         if (r->mark != OPEN_MARK) r->at = s->n;
     }
 }
-
-#endif

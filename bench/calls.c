@@ -1,10 +1,12 @@
-/* vimorake_begin and vimorake_draw beside the same by hand in C, bench/saved_test.c under the names by_hand_begin and by_hand_draw. It fails where an
+/* The calls of include/vimorake.h beside the same by hand in C, bench/saved_test.c under the names by_hand_begin and by_hand_draw. It fails where an
    answer or a byte of a form differs. Then it times both in turn: nanoseconds a call over the whole chain of a case, and by the length of the form.
    calls FOLDER RUNS: FOLDER holds `plan` and `draws`. With 0 runs nothing is timed, and each side has taken every draw once. */
+#include <stdio.h>
+#include <stdlib.h>
 #include <string.h>
+#include <time.h>
 
 #include "../include/vimorake.h"
-#include "timing.h"
 
 #define MOST_DRAWS 50001
 #define BLOCK 250
@@ -41,6 +43,12 @@ static size_t load(const char *folder, const char *name, uint8_t *to, size_t roo
     size_t size = fread(to, 1, room, file);
     fclose(file);
     return size;
+}
+
+static double now(void) {
+    struct timespec t;
+    if (clock_gettime(CLOCK_MONOTONIC, &t) != 0) fail("clock");
+    return (double)t.tv_sec * 1e9 + (double)t.tv_nsec;
 }
 
 /* --- a chain of calls (saved 7) --- */
@@ -94,6 +102,10 @@ static int hold_together(struct test *a, struct test *b, struct test *kept) {
 }
 
 /* --- timed: the least of all runs, in which both take turns --- */
+
+static void keep_least(double *least, double took) {
+    if (*least == 0 || took < *least) *least = took;
+}
 
 static void time_block(const struct calls *c, struct test *t, double *least) {
     double start = now();

@@ -19,18 +19,14 @@ static void open_file(const char *name) {
     }
 }
 
-/* Adjacent buckets between the thresholds; eight points `gap` steps apart, none where that is 0; of every `period` draws the last is a one, so that
-   the test stays open. */
-static void write_case(const char *name, const uint32_t *t, int count, uint64_t allowance, uint32_t horizon, int period, uint32_t gap) {
-    static const uint32_t shares[8] = {1000, 10000, 50000, 100000, 200000, 400000, 700000, 1000000};
-    int ends = 20 + 12 * count, points = gap ? 8 : 0;
+/* Adjacent buckets between the thresholds; of every `period` draws the last is a one, so that the test stays open. */
+static void write_case(const char *name, const uint32_t *t, int count, uint64_t allowance, uint32_t horizon, int period) {
     mkdir(name, 0777);
     if (chdir(name) != 0) exit(1);
     open_file("plan");
-    put(count, 2), put(count + 1, 2), put(20, 2), put(ends, 2), put(1000, 4), put(horizon, 4), put(points, 2), put(ends + 8 * (count + 1), 2);
+    put(count, 2), put(count + 1, 2), put(16, 2), put(16 + 12 * count, 2), put(1000, 4), put(horizon, 4);
     for (int i = 0; i < count; i++) put(t[i], 4), put(allowance, 8);
     for (int j = 0; j <= count; j++) put(j == 0 ? 0 : t[j - 1], 4), put(j == count ? 1000000 : t[j], 4);
-    for (int j = 0; j < points; j++) put(gap * (j + 1), 4), put(shares[j], 4);
     fclose(file);
     open_file("draws");
     for (uint32_t n = 1; n <= horizon; n++) fputc(n % period == 0 ? '1' : '0', file);
@@ -43,10 +39,9 @@ int main(int argc, char **argv) {
     static const uint32_t half[] = {500000}, twentieth[] = {50000};
     static const uint32_t ten[] = {499550, 499650, 499750, 499850, 499950, 500050, 500150, 500250, 500350, 500450};
     if (argc != 2 || (mkdir(argv[1], 0777), chdir(argv[1])) != 0) return 2;
-    write_case("star", star, 9, 488671834, 50000, 100, 0);
-    write_case("half", half, 1, 1000000, 50000, 2, 0);
-    write_case("plan-f", twentieth, 1, 4398046511, 200, 20, 0);
-    write_case("points", twentieth, 1, 4398046511, 1000, 20, 125);
-    write_case("ten", ten, 10, 1000000, 50000, 2, 0); /* for the longest forms: all ten stay open until they are wide */
+    write_case("star", star, 9, 488671834, 50000, 100);
+    write_case("half", half, 1, 1000000, 50000, 2);
+    write_case("plan-f", twentieth, 1, 4398046511, 200, 20);
+    write_case("ten", ten, 10, 1000000, 50000, 2); /* for the longest forms: all ten stay open until they are wide */
     return 0;
 }

@@ -1,15 +1,59 @@
-/* The calls of include/vimorake.h by hand in C: the same duties as the proved ones. The yardstick of bench/calls.c and bench/plans.c;
-   no part of the product. */
+/* The calls of include/vimorake.h by hand in C: the same duties as the proved ones. The yardstick of bench/calls.c; no part of the product. */
 #include "../include/vimorake.h"
-#include "stored_plan.h"
+#include "bucket_test.h"
 
 #define HEADER 24
 #define RECORD 36
 #define MASS sizeof(uint64_t)
 
+#if __BYTE_ORDER__ != __ORDER_LITTLE_ENDIAN__
+#error "numbers are copied as they stand: little-endian only"
+#endif
+
+static uint16_t get2(const uint8_t *b) {
+    uint16_t v;
+    memcpy(&v, b, sizeof v);
+    return v;
+}
+
+static uint32_t get4(const uint8_t *b) {
+    uint32_t v;
+    memcpy(&v, b, sizeof v);
+    return v;
+}
+
+static uint64_t get8(const uint8_t *b) {
+    uint64_t v;
+    memcpy(&v, b, sizeof v);
+    return v;
+}
+
 static void put2(uint8_t *b, uint16_t v) { memcpy(b, &v, sizeof v); }
 static void put4(uint8_t *b, uint32_t v) { memcpy(b, &v, sizeof v); }
 static void put8(uint8_t *b, uint64_t v) { memcpy(b, &v, sizeof v); }
+
+/* --- the stored plan (rules 2) --- */
+
+static uint32_t read_plan(const uint8_t *b, size_t n, struct plan *p) {
+    if (n < 16) return 7;
+    p->count = get2(b);
+    p->buckets = get2(b + 2);
+    if (p->count < 1 || p->count > 10 || p->buckets < 2 || p->buckets > 16) return 1;
+    size_t ends = 16 + 12 * p->count;
+    if (get2(b + 4) != 16 || get2(b + 6) != ends || n != ends + 8 * p->buckets) return 7;
+    p->delay = get4(b + 8);
+    p->horizon = get4(b + 12);
+    p->points = 0;
+    for (uint32_t i = 0; i < p->count; i++) {
+        p->threshold[i] = get4(b + 16 + 12 * i);
+        p->allowance[i] = get8(b + 20 + 12 * i);
+    }
+    for (uint32_t j = 0; j < p->buckets; j++) {
+        p->left[j] = get4(b + ends + 8 * j);
+        p->right[j] = get4(b + ends + 8 * j + 4);
+    }
+    return plan_refusal(p);
+}
 
 /* --- reading: refusal 15 (saved 3) --- */
 
@@ -117,36 +161,4 @@ uint32_t vimorake_draw(const uint8_t *plan, size_t plan_size, const uint8_t *sav
     if (!state_sound(&p, &s, words)) return 11;
     take(&p, &s, words, draw, 0);
     return write_test(&p, &s, words, lent, lent_size) ? number_of(answer_of(&p, &s)) : 12;
-}
-
-/* --- a stored plan in the wanted layout (rules 2) --- */
-
-/* Thresholds, buckets and points are the same bytes in both layouts. */
-static uint32_t convert(const uint8_t *stored, size_t stored_size, size_t layout, uint8_t *lent, size_t lent_size) {
-    struct plan p;
-    uint32_t bad = read_plan(stored, stored_size, &p);
-    if (bad) return bad;
-    if (layout == OLD_LAYOUT && p.points) return 17;
-    size_t from = get2(stored + 4), entries = stored_size - from, ends = layout + 12 * p.count;
-    if (lent_size < layout + entries) return 12;
-    put2(lent, (uint16_t)p.count);
-    put2(lent + 2, (uint16_t)p.buckets);
-    put2(lent + 4, (uint16_t)layout);
-    put2(lent + 6, (uint16_t)ends);
-    put4(lent + 8, p.delay);
-    put4(lent + 12, p.horizon);
-    if (layout == NEW_LAYOUT) {
-        put2(lent + 16, (uint16_t)p.points);
-        put2(lent + 18, (uint16_t)(ends + 8 * p.buckets));
-    }
-    memcpy(lent + layout, stored + from, entries);
-    return 0;
-}
-
-uint32_t vimorake_plan_to_new(const uint8_t *stored, size_t stored_size, uint8_t *lent, size_t lent_size) {
-    return convert(stored, stored_size, NEW_LAYOUT, lent, lent_size);
-}
-
-uint32_t vimorake_plan_to_old(const uint8_t *stored, size_t stored_size, uint8_t *lent, size_t lent_size) {
-    return convert(stored, stored_size, OLD_LAYOUT, lent, lent_size);
 }

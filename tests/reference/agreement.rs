@@ -7,7 +7,7 @@ use crate::examples::{marked_report, marked_state, MARKED};
 use crate::host::{plan_of, Report, State, ABOVE, AT_MOST, CROSSED, DECIDED, OPEN, SPENT, WIDE};
 use crate::judge::{self, Fault};
 use crate::overlap::{any_marks, marked, overlapping_draft};
-use crate::plan::{read, Layout};
+use crate::plan::read;
 use crate::rng::Rng;
 use crate::sequential::{Answer, Mark, Test};
 
@@ -26,7 +26,7 @@ fn by_judge(draft: &Draft, state: &State, fault: Fault) -> Report {
 }
 
 fn by_sequential(draft: &Draft, state: &State, slip: Slip) -> Report {
-    let plan = read(&draft.store(Layout::New)).expect("a plan that keeps the rules");
+    let plan = read(&draft.store()).expect("a plan that keeps the rules");
     let mut test = Test::begin(&plan, slip);
     for (mark, record) in test.marks.iter_mut().zip(&state.records) {
         *mark = match record.mark {

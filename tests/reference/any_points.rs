@@ -3,7 +3,7 @@
 use crate::any_plan::{any_horizon, plan_of_size};
 use crate::damage::{allowance, bucket, close, cover, delay_or_horizon, order, threshold};
 use crate::draft::Draft;
-use crate::host::{draft_of, plan_of, Plan};
+use crate::host::{plan_of, Plan};
 use crate::plan::MOST_POINTS;
 use crate::rng::Rng;
 use crate::scenes::plan_past_counts;
@@ -97,17 +97,6 @@ pub fn spoil_points(rng: &mut Rng, p: &mut Plan) {
         5..=6 => spoil_end(rng, p),
         _ => spoil_place(rng, p),
     }
-}
-
-/// The same of a draft, which gets points first if it has none.
-pub fn damage_points(rng: &mut Rng, draft: &mut Draft) {
-    if draft.points.is_empty() {
-        let count = rng.range(1, MOST_POINTS as u64) as usize;
-        draft.points = points_of_number(rng, count, draft.horizon.clamp(1, 50_000));
-    }
-    let mut plan = plan_of(draft);
-    spoil_points(rng, &mut plan);
-    draft.points = draft_of(&plan).map_or(vec![], |spoiled| spoiled.points);
 }
 
 /// Points that keep rule 16 or not, each of them alone or with other damage.

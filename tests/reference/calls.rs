@@ -2,21 +2,19 @@
 //! `kept`; a chain besides to the test that is carried without saves.
 
 use crate::damage::put;
+use crate::draft::plan_f;
 use crate::form::{length, LONGEST};
 use crate::form_damage::in_turn;
 use crate::host::{self, draft_of, plan_of, State, OPEN};
 use crate::judge::{self, Fault, PART};
 use crate::kept::{self, code};
-use crate::laid_out::{layout_of, number_at};
 use crate::outcomes::kind_of_refusal;
-use crate::plan::Layout;
 use crate::rng::Rng;
 use crate::rows::{Outcome, Rows, MET, OUTCOMES};
 use crate::saved_cases::{any_run, any_scene, numbers_of, plan_bytes, sound_scene, OTHER_DRAWS};
 use crate::saved_examples::{bytes_of, small_forms, Printed, Replaced, FORMS, IN_OPEN, IN_SETTLED, OLDER, PLAN_F};
 use crate::saved_examples::{F_AFTER_0, F_AFTER_11111, G_AFTER_0100};
 use crate::scenes::Scene;
-use crate::stored_examples::F_NEW;
 use crate::tally::conclude;
 use crate::wrong::{Wrong, BEGIN, CHAIN, DRAW};
 use std::cmp::Ordering;
@@ -31,11 +29,6 @@ const PAST: usize = 8;
 /// How often each row must come up, and each mistake be noticed.
 const NEEDED: u64 = 20;
 const NOTICED: u64 = 4;
-
-/// How a plan may be stored.
-const OLD: &str = "plan in the old layout";
-const NEW: &str = "plan in the new layout";
-const POINTS: &str = "plan with points";
 
 // ---- one call by both
 
@@ -56,23 +49,10 @@ pub fn form_in(lent: &[u8]) -> &[u8] {
     &lent[..whole.min(lent.len())]
 }
 
-/// How the plan of a call that is answered is laid out.
-fn note_layout(rows: &mut Rows, entry: &'static str, plan: &[u8], number: u32) {
-    if number >= 100 {
-        let row = match layout_of(plan) {
-            Some(Layout::New) if number_at(plan, 16, 2) > 0 => POINTS,
-            Some(Layout::New) => NEW,
-            _ => OLD,
-        };
-        rows.count(entry, MET, row.into(), true);
-    }
-}
-
 fn begin(rows: &mut Rows, rng: &mut Rng, plan: &[u8], room: usize) -> Outcome<u32, u8> {
     let lent = rng.bytes(room);
     let mut bytes = lent.clone();
     let got = (host::call_begin(plan, &mut bytes), bytes);
-    note_layout(rows, BEGIN, plan, got.0);
     let judged = |wrong| {
         let mut bytes = lent.clone();
         (kept::begin(plan, &mut bytes, wrong), bytes)
@@ -94,7 +74,6 @@ fn draw(rows: &mut Rows, rng: &mut Rng, entry: &'static str, call: Call, room: u
     let lent = rng.bytes(room);
     let mut bytes = lent.clone();
     let got = (host::call_draw(plan, saved, d, &mut bytes), bytes);
-    note_layout(rows, entry, plan, got.0);
     let judged = |wrong| {
         let mut bytes = lent.clone();
         (kept::draw(plan, saved, d, &mut bytes, wrong), bytes)
@@ -107,7 +86,7 @@ fn draw(rows: &mut Rows, rng: &mut Rng, entry: &'static str, call: Call, room: u
 
 /// A number of a form replaced, with the draws 0 and 2.
 fn compare_replaced(rows: &mut Rows, rng: &mut Rng, (draft, .., form): Printed, (at, size, other, number): Replaced) {
-    let (plan, mut saved) = (draft().store_any(rng), bytes_of(form));
+    let (plan, mut saved) = (draft().store(), bytes_of(form));
     put(&mut saved, at, size, other);
     for (d, number) in [(0, number), (2, if number == 15 { 15 } else { 9 })] {
         let got = draw(rows, rng, DRAW, Call { plan: &plan, saved: &saved, d }, 200).0;
@@ -116,16 +95,14 @@ fn compare_replaced(rows: &mut Rows, rng: &mut Rng, (draft, .., form): Printed, 
 }
 
 fn compare_examples(rows: &mut Rows, rng: &mut Rng) {
-    let (plan, new) = (bytes_of(PLAN_F), bytes_of(F_NEW));
-    let old = [(&plan[..], 67, 12), (&plan[..43], 67, 7), (&[], 68, 7), (&plan[..], 68, 100)];
-    let new = [(&new[..], 67, 12), (&new[..47], 67, 7), (&new[..44], 68, 7), (&new[..], 68, 100)];
-    for (plan, room, number) in old.into_iter().chain(new) {
+    let plan = bytes_of(PLAN_F);
+    rows.holds(BEGIN, plan == plan_f().store(), || "plan F is not as printed".into());
+    for (plan, room, number) in [(&plan[..], 67, 12), (&plan[..43], 67, 7), (&[], 68, 7)] {
         let got = begin(rows, rng, plan, room).0;
         rows.holds(BEGIN, got == number, || format!("{} bytes of the plan, {room} lent: {got} for {number}", plan.len()));
     }
-    let both = [Layout::Old, Layout::New].into_iter().flat_map(|layout| FORMS.map(|printed| (layout, printed)));
-    for (layout, (draft, draws, number, form)) in both {
-        let (plan, k) = (draft().store(layout), draft().thresholds.len());
+    for (draft, draws, number, form) in FORMS {
+        let (plan, k) = (draft().store(), draft().thresholds.len());
         let mut last = begin(rows, rng, &plan, length(k, k));
         for d in draws {
             rows.holds(DRAW, last.0 == 100, || format!("{draws:?}: {} before the last", last.0));
@@ -136,8 +113,7 @@ fn compare_examples(rows: &mut Rows, rng: &mut Rng) {
     }
     for (draft, _, form) in OLDER {
         for d in [0, 1, 2] {
-            let plan = draft().store_any(rng);
-            let got = draw(rows, rng, DRAW, Call { plan: &plan, saved: &bytes_of(form), d }, LONGEST).0;
+            let got = draw(rows, rng, DRAW, Call { plan: &draft().store(), saved: &bytes_of(form), d }, LONGEST).0;
             rows.holds(DRAW, got == 15, || format!("older layout, draw {d}: {got}: {form}"));
         }
     }
@@ -166,7 +142,7 @@ fn any_room(rng: &mut Rng, new: usize, old: usize) -> usize {
 /// handed over again, most times.
 fn chain(rows: &mut Rows, rng: &mut Rng, place: u64) {
     let (draft, mut draws) = any_run(rng, place);
-    let (plan, p, k) = (draft.store_any(rng), plan_of(&draft), draft.thresholds.len());
+    let (plan, p, k) = (draft.store(), plan_of(&draft), draft.thresholds.len());
     let room = rng.pick(&[0, length(k, k) - 1, length(k, k) - 8]);
     begin(rows, rng, &plan, room);
     let begun = begin(rows, rng, &plan, length(k, k) + room % 2).1;
@@ -237,7 +213,7 @@ fn compare_call(rows: &mut Rows, rng: &mut Rng, plan: &[u8], saved: &[u8], d: u3
 
 /// The older layout is refused, whatever the test, the draw and the room.
 fn compare_older(rows: &mut Rows, rng: &mut Rng, good: &Scene) {
-    let plan = draft_of(&good.plan).expect("counts that keep rule 1").store_any(rng);
+    let plan = draft_of(&good.plan).expect("counts that keep rule 1").store();
     let (saved, d, room) = (numbers_of(good).store_older(), rng.pick(&[0, 1, 2]), rng.pick(&[0, LONGEST]));
     let got = draw(rows, rng, DRAW, Call { plan: &plan, saved: &saved, d }, room).0;
     rows.count(DRAW, MET, format!("older layout: {}", kind(got)), true);
@@ -262,11 +238,7 @@ fn compare_scene(rows: &mut Rows, rng: &mut Rng) {
 }
 
 fn needed(rows: &mut Rows) {
-    let refusals = "refused 1, refused 2, refused 3, refused 4, refused 5, refused 6, refused 7, refused 14, \
-                    refused 16, refused 12";
-    for (entry, answered) in [(BEGIN, 1000), (DRAW, 100), (CHAIN, 300)] {
-        rows.need(entry, MET, &[OLD, NEW, POINTS].join(", "), answered);
-    }
+    let refusals = "refused 1, refused 2, refused 3, refused 4, refused 5, refused 6, refused 7, refused 14, refused 12";
     for entry in [BEGIN, DRAW] {
         rows.need(entry, OUTCOMES, refusals, NEEDED);
         rows.need_noticed(entry, NOTICED);
@@ -294,8 +266,7 @@ pub fn run(seed: u64) -> bool {
     for (draft, form) in small_forms() {
         for saved in in_turn(rng, &form) {
             let d = rng.pick(&[0, 0, 0, 1, 1, 1, 2]);
-            let plan = draft.store_any(rng);
-            compare_call(rows, rng, &plan, &saved, d);
+            compare_call(rows, rng, &draft.store(), &saved, d);
         }
     }
     for place in 0..CHAINS {

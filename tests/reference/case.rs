@@ -1,10 +1,8 @@
 //! One run of the program: its plan, its input, and how that reaches it.
 
 use crate::draft::Draft;
-use crate::plan::Layout;
-use crate::rng::Rng;
 
-#[derive(Clone, Debug, PartialEq)]
+#[derive(Clone, Debug)]
 pub enum PlanFile {
     Stored(Vec<u8>),
     Missing,
@@ -13,13 +11,8 @@ pub enum PlanFile {
 }
 
 impl PlanFile {
-    pub fn of(draft: &Draft, layout: Layout) -> PlanFile {
-        PlanFile::Stored(draft.store(layout))
-    }
-
-    /// In either layout.
-    pub fn any_of(rng: &mut Rng, draft: &Draft) -> PlanFile {
-        PlanFile::Stored(draft.store_any(rng))
+    pub fn of(draft: &Draft) -> PlanFile {
+        PlanFile::Stored(draft.store())
     }
 
     pub fn bytes(&self) -> Option<&[u8]> {

@@ -6,7 +6,7 @@ use crate::examples::{with_thresholds, CLOSE};
 use crate::host::{self, plan_of, Plan, State, OPEN, REFUSED};
 use crate::judge::{FIRST, PART};
 use crate::lapses::{lapses, Judged, Lapse};
-use crate::plan::{parsed, read, Layout, WHOLE};
+use crate::plan::{parsed, read, WHOLE};
 use crate::rng::Rng;
 use crate::scenes::plan_past_counts;
 use crate::tally::{conclude, Counts, Differing};
@@ -22,9 +22,8 @@ const BEGUN: State = State { answer: OPEN, number: 0, n: 0, ones: 0, records: [F
 /// What the entries are handed.
 struct Case {
     plan: Plan,
-    /// What is written.
     form: Vec<u8>,
-    /// What is read, in either layout: the form, or one with a wrong length or offset.
+    /// What is read: the form, or one with a wrong length or offset.
     stored: Vec<u8>,
     words: Vec<u64>,
     draw: u8,
@@ -33,11 +32,11 @@ struct Case {
 }
 
 impl Case {
-    fn of(draft: &Draft, layout: Layout) -> Case {
-        let (form, stored) = (draft.store(Layout::New), draft.store(layout));
+    fn of(draft: &Draft) -> Case {
+        let form = draft.store();
         let mut words = vec![0; PART * draft.thresholds.len()];
         words.iter_mut().step_by(PART).for_each(|word| *word = WHOLE as u64);
-        Case { plan: plan_of(draft), stored, words, draw: 1, lent: form.len(), form }
+        Case { plan: plan_of(draft), stored: form.clone(), words, draw: 1, lent: form.len(), form }
     }
 
     /// At times more than the plan is wrong.
@@ -48,7 +47,7 @@ impl Case {
             1 => self.draw = 2,
             2 => self.lent -= 1,
             3 => self.stored.push(0),
-            4 => drop(self.stored.pop()),
+            4 => self.stored.truncate(self.form.len() - 1),
             5 => self.stored[rng.pick(&[4, 6])] ^= 1,
             _ => {}
         }
@@ -213,17 +212,14 @@ pub fn run(seed: u64) -> bool {
     let began = Instant::now();
     let mut tally = Tally::default();
     for (thresholds, allowance, number) in CLOSE {
-        for layout in [Layout::Old, Layout::New] {
-            let case = Case::of(&with_thresholds(thresholds, allowance), layout);
-            for entry in ENTRIES {
-                tally.compare(entry, &case, number);
-            }
+        let case = Case::of(&with_thresholds(thresholds, allowance));
+        for entry in ENTRIES {
+            tally.compare(entry, &case, number);
         }
     }
     for place in 0..PLANS {
         let rng = &mut Rng::new(seed, 43_000_000 + place);
-        let layout = rng.pick(&[Layout::Old, Layout::New]);
-        let mut case = Case::of(&close_draft(rng), layout);
+        let mut case = Case::of(&close_draft(rng));
         case.spoil(rng);
         tally.compare_all(&case);
     }

@@ -2,7 +2,7 @@
 
 use crate::any_plan::{any_horizon, plan_of_size};
 use crate::draft::Draft;
-use crate::plan::{LARGEST_ALLOWANCE, LEAST_APART, MOST_POINTS};
+use crate::plan::{LARGEST_ALLOWANCE, LEAST_APART};
 use crate::rng::Rng;
 
 pub fn put(bytes: &mut [u8], from: usize, size: usize, value: u64) {
@@ -25,21 +25,15 @@ pub fn odd_number(rng: &mut Rng, size: usize, near: &[u64]) -> u64 {
     }
 }
 
-/// A number of the header, of a form in either layout.
 pub fn header(rng: &mut Rng, bytes: &mut Vec<u8>) {
-    let [k, b] = [0, 2].map(|at| bytes[at] as u64);
-    let (first, numbers) = if bytes[4] == 20 { (20, 8) } else { (16, 6) };
-    let (buckets_at, points_at) = (first + 12 * k, first + 12 * k + 8 * b);
-    let (from, size, near): (usize, usize, Vec<u64>) = match rng.below(numbers) {
+    let k = bytes[0] as u64;
+    let (from, size, near): (usize, usize, Vec<u64>) = match rng.below(6) {
         0 => (0, 2, vec![0, 1, 10, 11, k]),
-        1 => (2, 2, vec![1, 2, 16, 17, b]),
-        2 => (4, 2, vec![16, 20, 0]),
-        // The second is the other layout's.
-        3 => (6, 2, vec![buckets_at, 36 - first + 12 * k, 28, 16]),
+        1 => (2, 2, vec![1, 2, 16, 17]),
+        2 => (4, 2, vec![16, 0, 20]),
+        3 => (6, 2, vec![16 + 12 * k, 28, 16]),
         4 => (8, 4, vec![1, 65_535, 1000, 0]),
-        5 => (12, 4, vec![1, 50_000, 200, 0]),
-        6 => (16, 2, vec![0, 1, 8, 9, bytes[16] as u64]),
-        _ => (18, 2, vec![points_at, points_at - 4, points_at + 8, 0]),
+        _ => (12, 4, vec![1, 50_000, 200, 0]),
     };
     let value = odd_number(rng, size, &near);
     put(bytes, from, size, value);
@@ -138,24 +132,17 @@ pub fn cover(rng: &mut Rng, draft: &mut Draft) {
 }
 
 pub fn counts(rng: &mut Rng, draft: &mut Draft) {
-    match rng.below(5) {
+    match rng.below(4) {
         0 => draft.thresholds.clear(),
         1 => {
             let mut at = draft.thresholds.last().map_or(1, |t| t.0);
             let step = rng.pick(&[1, LEAST_APART]);
             while draft.thresholds.len() < 11 {
-                at = at.saturating_add(step);
+                at += step;
                 draft.thresholds.push((at, 7));
             }
         }
         2 => draft.buckets.truncate(rng.below(2) as usize),
-        3 => {
-            let number = rng.pick(&[MOST_POINTS + 1, MOST_POINTS + 1, 16, 256, 257]);
-            while draft.points.len() < number {
-                let (step, share) = draft.points.last().copied().unwrap_or((0, 0));
-                draft.points.push((step.saturating_add(1), share));
-            }
-        }
         _ => {
             while draft.buckets.len() < 17 {
                 let again = rng.pick(&draft.buckets);
@@ -206,7 +193,7 @@ pub fn truncate(rng: &mut Rng, bytes: &mut Vec<u8>) {
 }
 
 pub fn extend(rng: &mut Rng, bytes: &mut Vec<u8>) {
-    let more = rng.pick(&[1, 1, 2, 4, 8, 12, 16, 220, 248, 249, 264, 284, 285, 286, 288, 289, 300, 4096, 70_000]);
+    let more = rng.pick(&[1, 1, 2, 4, 8, 12, 16, 220, 248, 249, 264, 300, 4096, 70_000]);
     let zeros = rng.chance(1, 2);
     bytes.extend((0..more).map(|_| if zeros { 0 } else { rng.next() as u8 }));
 }

@@ -1,25 +1,20 @@
 //! Damaged plans and inputs, each from a seed and a place in the list.
 
 use crate::any_plan::any_plan;
-use crate::any_points::{any_points, damage_points};
 use crate::case::{Case, Feed, PlanFile};
 use crate::damage;
 use crate::draft::{plan_f, Draft};
 use crate::draws::{near, render};
-use crate::layout_damage;
 use crate::rng::Rng;
 
-pub const DAMAGED_RUNS: u64 = 28_600;
+pub const DAMAGED_RUNS: u64 = 25_300;
 
-/// A plan that ends soon on most inputs, at times with points.
+/// A plan that ends soon on most inputs.
 fn small_plan(rng: &mut Rng) -> Draft {
     let horizon = rng.scale(1, 60) as u32;
     let mut draft = any_plan(rng, 1, horizon);
     if rng.chance(1, 3) {
         draft.horizon = rng.scale(1, 50_000) as u32;
-    }
-    if rng.chance(2, 5) {
-        draft.points = any_points(rng, draft.horizon);
     }
     draft
 }
@@ -27,18 +22,17 @@ fn small_plan(rng: &mut Rng) -> Draft {
 /// Several at once, to see which refusal comes first.
 fn several(rng: &mut Rng, mut draft: Draft, input: &mut Vec<u8>) -> PlanFile {
     for _ in 0..rng.range(2, 4) {
-        match rng.below(8) {
+        match rng.below(7) {
             0 => damage::threshold(rng, &mut draft),
             1 => damage::allowance(rng, &mut draft),
             2 => draft.delay = damage::odd_number(rng, 4, &[0, 65_536]) as u32,
             3 => draft.horizon = damage::odd_number(rng, 4, &[0, 50_001]) as u32,
             4 => damage::bucket(rng, &mut draft),
             5 => damage::close(rng, &mut draft),
-            6 => damage_points(rng, &mut draft),
             _ => damage::cover(rng, &mut draft),
         }
     }
-    let mut bytes = draft.store_any(rng);
+    let mut bytes = draft.store();
     if rng.chance(1, 4) {
         damage::header(rng, &mut bytes);
     }
@@ -53,7 +47,7 @@ fn several(rng: &mut Rng, mut draft: Draft, input: &mut Vec<u8>) -> PlanFile {
 
 /// Close thresholds; at times the form or the input is damaged too.
 fn close(rng: &mut Rng, _: Draft, input: &mut Vec<u8>) -> PlanFile {
-    let mut bytes = damage::close_draft(rng).store_any(rng);
+    let mut bytes = damage::close_draft(rng).store();
     match rng.below(16) {
         0 => damage::header(rng, &mut bytes),
         1 => damage::truncate(rng, &mut bytes),
@@ -67,7 +61,7 @@ fn close(rng: &mut Rng, _: Draft, input: &mut Vec<u8>) -> PlanFile {
 fn input_of_plan_f(rng: &mut Rng, _: Draft, input: &mut Vec<u8>) -> PlanFile {
     damage::input(rng, input);
     damage::input(rng, input);
-    PlanFile::any_of(rng, &plan_f())
+    PlanFile::of(&plan_f())
 }
 
 /// The input goes on, with anything, after an ending answer.
@@ -77,8 +71,7 @@ fn go_on_after_end(rng: &mut Rng, draft: Draft, input: &mut Vec<u8>) -> PlanFile
     for _ in 0..rng.scale(1, 3000) {
         input.push(if rng.chance(1, 3) { rng.next() as u8 } else { b'0' + rng.below(2) as u8 });
     }
-    let points = draft.points.into_iter().filter(|(step, _)| *step <= horizon).collect();
-    PlanFile::any_of(rng, &Draft { horizon, points, ..draft })
+    PlanFile::of(&Draft { horizon, ..draft })
 }
 
 fn no_plan(rng: &mut Rng, _: Draft, input: &mut Vec<u8>) -> PlanFile {
@@ -119,16 +112,13 @@ enum Damage {
 }
 
 /// By turns: what stands here twice comes up twice as often.
-const DAMAGES: [(&str, Damage); 26] = [
+const DAMAGES: [(&str, Damage); 23] = [
     ("header", Damage::Stored(damage::header)),
     ("header", Damage::Stored(damage::header)),
-    ("layout", Damage::Stored(layout_damage::layout)),
-    ("layout", Damage::Stored(layout_damage::layout)),
     ("counts", Damage::Draft(damage::counts)),
     ("threshold", Damage::Draft(damage::threshold)),
     ("allowance", Damage::Draft(damage::allowance)),
     ("delay or horizon", Damage::Draft(damage::delay_or_horizon)),
-    ("points", Damage::Draft(damage_points)),
     ("bucket", Damage::Draft(damage::bucket)),
     ("cover", Damage::Draft(damage::cover)),
     ("truncated", Damage::Stored(damage::truncate)),
@@ -154,14 +144,14 @@ impl Damage {
         match self {
             Damage::Draft(damage) => damage(rng, &mut draft),
             Damage::Stored(damage) => {
-                let mut bytes = draft.store_any(rng);
+                let mut bytes = draft.store();
                 damage(rng, &mut bytes);
                 return PlanFile::Stored(bytes);
             }
             Damage::Input(damage) => damage(rng, input),
             Damage::Both(damage) => return damage(rng, draft, input),
         }
-        PlanFile::any_of(rng, &draft)
+        PlanFile::of(&draft)
     }
 }
 

@@ -1,7 +1,6 @@
 //! A plan before it is stored, and the plans that several checks use.
 
-use crate::plan::{Bucket, Layout, Plan, Point, Threshold, LARGEST_ALLOWANCE};
-use crate::rng::Rng;
+use crate::plan::{Bucket, Plan, Point, Threshold, LARGEST_ALLOWANCE};
 
 /// A plan before it is stored; nothing in it need keep the rules.
 #[derive(Clone, Debug)]
@@ -29,43 +28,24 @@ impl Draft {
         }
     }
 
-    /// The draft of a plan whose numbers fit their bytes.
-    pub fn of(plan: &Plan) -> Draft {
-        Draft {
-            thresholds: plan.thresholds.iter().map(|t| (t.at as u32, t.allowance as u64)).collect(),
-            delay: plan.delay as u32,
-            horizon: plan.horizon as u32,
-            buckets: plan.buckets.iter().map(|b| (b.left as u32, b.right as u32)).collect(),
-            points: plan.points.iter().map(|p| (p.step as u32, p.share as u32)).collect(),
+    /// The stored form, which has no place for points.
+    pub fn store(&self) -> Vec<u8> {
+        let k = self.thresholds.len();
+        let mut out = Vec::new();
+        for half in [k, self.buckets.len(), 16, 16 + 12 * k] {
+            out.extend((half as u16).to_le_bytes());
         }
-    }
-
-    /// The stored form. The old layout has no place for points: there they are left out.
-    pub fn store(&self, layout: Layout) -> Vec<u8> {
-        let pair = |(a, b): &(u32, u32)| [a.to_le_bytes(), b.to_le_bytes()].concat();
-        let threshold = |(at, allowance): &(u32, u64)| [&at.to_le_bytes()[..], &allowance.to_le_bytes()].concat();
-        let thresholds: Vec<u8> = self.thresholds.iter().flat_map(threshold).collect();
-        let buckets: Vec<u8> = self.buckets.iter().flat_map(pair).collect();
-        let points: Vec<u8> = self.points.iter().flat_map(pair).collect();
-        let halves = |numbers: &[usize]| -> Vec<u8> { numbers.iter().flat_map(|n| (*n as u16).to_le_bytes()).collect() };
-        let header = if layout == Layout::Old { 16 } else { 20 };
-        let buckets_at = header + thresholds.len();
-        let counts = halves(&[self.thresholds.len(), self.buckets.len(), header, buckets_at]);
-        let mut out = [counts, self.delay.to_le_bytes().to_vec(), self.horizon.to_le_bytes().to_vec()].concat();
-        match layout {
-            Layout::Old => out.extend([thresholds, buckets].concat()),
-            Layout::New => {
-                out.extend(halves(&[self.points.len(), buckets_at + buckets.len()]));
-                out.extend([thresholds, buckets, points].concat());
-            }
+        out.extend(self.delay.to_le_bytes());
+        out.extend(self.horizon.to_le_bytes());
+        for (at, allowance) in &self.thresholds {
+            out.extend(at.to_le_bytes());
+            out.extend(allowance.to_le_bytes());
+        }
+        for (left, right) in &self.buckets {
+            out.extend(left.to_le_bytes());
+            out.extend(right.to_le_bytes());
         }
         out
-    }
-
-    /// In either layout; one with points in the new one.
-    pub fn store_any(&self, rng: &mut Rng) -> Vec<u8> {
-        let either = rng.pick(&[Layout::Old, Layout::New]);
-        self.store(if self.points.is_empty() { either } else { Layout::New })
     }
 
     pub fn ends(&self) -> Vec<u32> {

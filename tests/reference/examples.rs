@@ -4,9 +4,6 @@ use crate::case::Feed::{Closed, Folder, Held, Pieces, Reset, Whole, WriteOnly};
 use crate::case::{Case, Feed, PlanFile};
 use crate::draft::{plan_f, star_plan, two_buckets, Draft};
 use crate::host::{Record, Report, State, ABOVE, AT_MOST, CROSSED, DECIDED};
-use crate::plan::Layout;
-use crate::point_facts::{example_plan, EXAMPLE_LINES};
-use crate::stored_examples::stored_examples;
 
 pub struct Example {
     pub name: String,
@@ -30,7 +27,7 @@ pub fn crossing_plan() -> Draft {
     }
 }
 
-/// As many thresholds and buckets as a plan may have; the thresholds as close as they may be.
+/// As many thresholds and buckets as a plan may have, 264 bytes; the thresholds as close as they may be.
 pub fn largest_plan() -> Draft {
     Draft {
         thresholds: (1..=10).map(|i| (100 * i, 1)).collect(),
@@ -91,24 +88,24 @@ fn even_plan() -> Draft {
     Draft { buckets, ..with_thresholds(&[10_000, 20_000, 30_000, 40_000], 1) }
 }
 
-fn f(layout: Layout) -> PlanFile {
-    PlanFile::of(&plan_f(), layout)
+fn f() -> PlanFile {
+    PlanFile::of(&plan_f())
 }
 
-fn f_to_172(layout: Layout) -> PlanFile {
-    PlanFile::of(&Draft { horizon: 172, ..plan_f() }, layout)
+fn f_to_172() -> PlanFile {
+    PlanFile::of(&Draft { horizon: 172, ..plan_f() })
 }
 
-fn with_a_byte_more(draft: &Draft, layout: Layout) -> PlanFile {
-    PlanFile::Stored([draft.store(layout), vec![0]].concat())
+fn with_a_byte_more(draft: &Draft) -> PlanFile {
+    PlanFile::Stored([draft.store(), vec![0]].concat())
 }
 
-fn close_with_a_byte_more(layout: Layout) -> PlanFile {
-    with_a_byte_more(&with_thresholds(&[50_000, 50_099], 1), layout)
+fn close_with_a_byte_more() -> PlanFile {
+    with_a_byte_more(&with_thresholds(&[50_000, 50_099], 1))
 }
 
-fn crossing(layout: Layout) -> PlanFile {
-    PlanFile::of(&crossing_plan(), layout)
+fn crossing() -> PlanFile {
+    PlanFile::of(&crossing_plan())
 }
 
 /// An input of LENGTH draws: some zeros, then the pattern over and over.
@@ -126,7 +123,7 @@ const fn zeros_then<const LENGTH: usize>(zeros: usize, pattern: &[u8]) -> [u8; L
 const TURN_ABOUT: [u8; 800] = zeros_then(0, b"10");
 
 /// Its name, the plan, the input, how that is fed, and the line.
-type Row = (&'static str, fn(Layout) -> PlanFile, &'static [u8], Feed, &'static str);
+type Row = (&'static str, fn() -> PlanFile, &'static [u8], Feed, &'static str);
 
 const ROWS: [Row; 44] = [
     ("plan F, 11111", f, b"11111", Whole, "decided 2 5 5 50000 1000000\n"),
@@ -153,26 +150,26 @@ const ROWS: [Row; 44] = [
     ("plan F, draw 2", f, b"2", Whole, "refused 9\n"),
     ("plan F, draw 2, input held open", f, b"112", Held, "refused 9\n"),
     ("plan F, a carriage return", f, b"11\r\n111", Whole, "refused 9\n"),
-    ("empty plan", |_| PlanFile::Stored(vec![]), b"11111", Whole, "refused 7\n"),
-    ("missing plan", |_| PlanFile::Missing, b"11111", Whole, "refused 7\n"),
-    ("missing plan, input held open", |_| PlanFile::Missing, b"", Held, "refused 7\n"),
-    ("missing plan, input closed", |_| PlanFile::Missing, b"", Closed, "refused 7\n"),
-    ("missing plan, draw 2", |_| PlanFile::Missing, b"2", Whole, "refused 7\n"),
-    ("unreadable plan", |_| PlanFile::Folder, b"11111", Whole, "refused 7\n"),
-    ("the most thresholds and buckets", |l| PlanFile::of(&largest_plan(), l), b"", Whole, "open 0 0 0 0 1000000\n"),
-    ("the same with a byte more", |l| with_a_byte_more(&largest_plan(), l), b"", Whole, "refused 7\n"),
+    ("empty plan", || PlanFile::Stored(vec![]), b"11111", Whole, "refused 7\n"),
+    ("missing plan", || PlanFile::Missing, b"11111", Whole, "refused 7\n"),
+    ("missing plan, input held open", || PlanFile::Missing, b"", Held, "refused 7\n"),
+    ("missing plan, input closed", || PlanFile::Missing, b"", Closed, "refused 7\n"),
+    ("missing plan, draw 2", || PlanFile::Missing, b"2", Whole, "refused 7\n"),
+    ("unreadable plan", || PlanFile::Folder, b"11111", Whole, "refused 7\n"),
+    ("a plan of 264 bytes", || PlanFile::of(&largest_plan()), b"", Whole, "open 0 0 0 0 1000000\n"),
+    ("the same with a byte more", || with_a_byte_more(&largest_plan()), b"", Whole, "refused 7\n"),
     ("thresholds 99 apart, a byte more", close_with_a_byte_more, b"", Whole, "refused 7\n"),
-    ("allowance of one half (P9)", |l| PlanFile::of(&half_allowance_plan(), l), b"11111", Whole, "refused 3\n"),
-    ("a gap between buckets (P10)", |l| PlanFile::of(&gap_plan(), l), b"11111", Whole, "refused 6\n"),
+    ("allowance of one half (P9)", || PlanFile::of(&half_allowance_plan()), b"11111", Whole, "refused 3\n"),
+    ("a gap between buckets (P10)", || PlanFile::of(&gap_plan()), b"11111", Whole, "refused 6\n"),
     ("10,000 above, 50,000 open (P7)", crossing, b"11", Whole, "open 0 2 2 10000 1000000\n"),
     ("10,000 at most, 50,000 open", crossing, &zeros_then::<97>(80, b"1"), Whole, "open 0 97 17 0 10000\n"),
     ("10,000 at most, 50,000 above (P8)", crossing, &zeros_then::<120>(80, b"1"), Whole, "crossed 0 98 18 50000 10000\n"),
-    ("the narrower of two", |l| PlanFile::of(&narrower_plan(), l), b"111", Whole, "decided 3 3 3 10000 1000000\n"),
-    ("one draw before", |l| PlanFile::of(&narrower_plan(), l), b"11", Whole, "open 0 2 2 0 1000000\n"),
-    ("equally narrow", |l| PlanFile::of(&equally_narrow_plan(), l), &TURN_ABOUT, Whole, "decided 3 24 12 400000 600000\n"),
-    ("wide at step 768", |l| PlanFile::of(&widening_plan(50_000), l), &TURN_ABOUT, Whole, "wide 0 768 384 0 1000000\n"),
-    ("wide before spent", |l| PlanFile::of(&widening_plan(768), l), &TURN_ABOUT, Whole, "wide 0 768 384 0 1000000\n"),
-    ("spent before wide", |l| PlanFile::of(&widening_plan(767), l), &TURN_ABOUT, Whole, "spent 0 767 384 0 1000000\n"),
+    ("the narrower of two", || PlanFile::of(&narrower_plan()), b"111", Whole, "decided 3 3 3 10000 1000000\n"),
+    ("one draw before", || PlanFile::of(&narrower_plan()), b"11", Whole, "open 0 2 2 0 1000000\n"),
+    ("equally narrow", || PlanFile::of(&equally_narrow_plan()), &TURN_ABOUT, Whole, "decided 3 24 12 400000 600000\n"),
+    ("wide at step 768", || PlanFile::of(&widening_plan(50_000)), &TURN_ABOUT, Whole, "wide 0 768 384 0 1000000\n"),
+    ("wide before spent", || PlanFile::of(&widening_plan(768)), &TURN_ABOUT, Whole, "wide 0 768 384 0 1000000\n"),
+    ("spent before wide", || PlanFile::of(&widening_plan(767)), &TURN_ABOUT, Whole, "spent 0 767 384 0 1000000\n"),
 ];
 
 /// Plan F with other thresholds, one allowance for all.
@@ -253,48 +250,23 @@ pub fn marked_report((low, high): (u32, u32), number: u32) -> Report {
     Report { answer: if number == 0 { CROSSED } else { DECIDED }, number, low, high }
 }
 
-/// The line of a plan that takes no draw.
-fn undrawn(number: u32) -> String {
-    match number {
-        0 => "open 0 0 0 0 1000000\n".into(),
-        number => format!("refused {number}\n"),
-    }
-}
-
-fn close_example((thresholds, allowance, number): (&[u32], u64, u32), layout: Layout) -> Example {
-    let plan = PlanFile::of(&with_thresholds(thresholds, allowance), layout);
+fn close_example((thresholds, allowance, number): (&[u32], u64, u32)) -> Example {
+    let plan = PlanFile::of(&with_thresholds(thresholds, allowance));
     Example {
-        name: format!("thresholds {thresholds:?}, allowance {allowance}, {layout:?}"),
+        name: format!("thresholds {thresholds:?}, allowance {allowance}"),
         case: Case { kind: "example", plan, input: Vec::new(), feed: Whole },
-        line: undrawn(number),
+        line: match number {
+            0 => "open 0 0 0 0 1000000\n".into(),
+            number => format!("refused {number}\n"),
+        },
     }
-}
-
-/// In both layouts, if a plan is stored at all.
-fn of_row((name, plan, input, feed, line): Row) -> Vec<Example> {
-    let mut files = vec![(Layout::Old, plan(Layout::Old)), (Layout::New, plan(Layout::New))];
-    files.dedup_by(|a, b| a.1 == b.1);
-    let one = |(layout, plan)| Example {
-        name: format!("{name}, {layout:?}"),
-        case: Case { kind: "example", plan, input: input.to_vec(), feed },
-        line: line.into(),
-    };
-    files.into_iter().map(one).collect()
-}
-
-fn of_stored((name, stored, input, line): (String, Vec<u8>, &str, String)) -> Example {
-    let plan = PlanFile::Stored(stored);
-    Example { name, case: Case { kind: "example", plan, input: input.into(), feed: Whole }, line }
 }
 
 pub fn all() -> Vec<Example> {
-    let close = |layout| CLOSE.into_iter().map(move |row| close_example(row, layout));
-    let mut out: Vec<Example> = ROWS.into_iter().flat_map(of_row).collect();
-    out.extend([Layout::Old, Layout::New].into_iter().flat_map(close));
-    out.extend(EXAMPLE_LINES.into_iter().map(|(draws, line)| {
-        of_stored((format!("points, draws {draws}"), example_plan().store(Layout::New), draws, line.into()))
-    }));
-    let stored = stored_examples().into_iter();
-    out.extend(stored.map(|(name, stored, number)| of_stored((name, stored, "", undrawn(number)))));
-    out
+    let example = |(name, plan, input, feed, line): Row| Example {
+        name: name.into(),
+        case: Case { kind: "example", plan: plan(), input: input.to_vec(), feed },
+        line: line.into(),
+    };
+    ROWS.into_iter().map(example).chain(CLOSE.into_iter().map(close_example)).collect()
 }

@@ -1,7 +1,7 @@
-//! The library's entries, by way of the crate `host`, and its four calls for C.
+//! The library's entries, by way of the crate `host`, and its two calls for C.
 
 use crate::draft::Draft;
-use crate::plan::{Bucket, Layout};
+use crate::plan::Bucket;
 
 /// Any plan; `refusal` is that of a reading.
 #[repr(C)]
@@ -148,8 +148,6 @@ mod entries {
             lent: *mut u8,
             lent_len: usize,
         ) -> u32;
-        pub fn vimorake_plan_to_new(stored: *const u8, stored_len: usize, lent: *mut u8, lent_len: usize) -> u32;
-        pub fn vimorake_plan_to_old(stored: *const u8, stored_len: usize, lent: *mut u8, lent_len: usize) -> u32;
     }
 }
 
@@ -193,15 +191,6 @@ pub fn call_begin(plan: &[u8], lent: &mut [u8]) -> u32 {
 pub fn call_draw(plan: &[u8], saved: &[u8], draw: u32, lent: &mut [u8]) -> u32 {
     let (old, old_len) = (saved.as_ptr(), saved.len());
     unsafe { entries::vimorake_draw(plan.as_ptr(), plan.len(), old, old_len, draw, lent.as_mut_ptr(), lent.len()) }
-}
-
-/// A stored plan in the wanted layout: 0 or the refusal.
-pub fn call_convert(stored: &[u8], wanted: Layout, lent: &mut [u8]) -> u32 {
-    let convert = match wanted {
-        Layout::New => entries::vimorake_plan_to_new,
-        Layout::Old => entries::vimorake_plan_to_old,
-    };
-    unsafe { convert(stored.as_ptr(), stored.len(), lent.as_mut_ptr(), lent.len()) }
 }
 
 pub fn count_begin(h: u32, n: u32) -> Run {

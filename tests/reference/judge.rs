@@ -5,7 +5,7 @@ use crate::choices::Choice;
 use crate::host::{draft_of, Plan, Record, Report, State, Written};
 use crate::host::{ABOVE, AT_MOST, CROSSED, DECIDED, OPEN, REFUSED, SPENT, WIDE};
 use crate::misspent::Misspent;
-use crate::plan::{Layout, MILLION, WHOLE};
+use crate::plan::{MILLION, WHOLE};
 
 /// Words of a part.
 pub const PART: usize = 769;
@@ -102,8 +102,9 @@ pub fn plan_refusal(p: &Plan) -> u32 {
 
 /// What a writing hands back; the bytes are changed in place.
 pub fn write_plan(p: &Plan, lent: &mut [u8]) -> Written {
-    let form = draft_of(p).map_or(vec![], |draft| draft.store(Layout::New));
+    let form = draft_of(p).map_or(vec![], |draft| draft.store());
     let refusal = match plan_refusal(p) {
+        0 if p.points > 0 => 17,
         0 if lent.len() < form.len() => 12,
         number => number,
     };

@@ -5,7 +5,6 @@ use crate::form::{held, length, Held, Numbers};
 use crate::host::{draft_of, plan_of, Plan, Record, State, Test, Written};
 use crate::host::{CROSSED, DECIDED, OPEN, REFUSED, SPENT, WIDE};
 use crate::judge::{self, answer, live, plan_refusal, Fault, PART};
-use crate::laid_out::layout_of;
 use crate::plan;
 use crate::wrong::{Wrong, PLAN, ROUNDED};
 use std::borrow::Cow;
@@ -137,22 +136,22 @@ pub fn code(answer: u32, number: u32, wrong: Wrong) -> u32 {
     }
 }
 
-/// The plan of stored bytes, where they are a form and its counts keep rule 1; and what refuses the bytes.
-fn stored_plan(bytes: &[u8], wrong: Wrong) -> (u32, Option<Plan>) {
+/// The plan of stored bytes, where all but its rules 2 to 6 is kept; and what refuses the bytes.
+fn stored_plan(bytes: &[u8]) -> (u32, Option<Plan>) {
+    let draft = |of: plan::Plan| Draft {
+        thresholds: of.thresholds.iter().map(|t| (t.at as u32, t.allowance as u64)).collect(),
+        delay: of.delay as u32,
+        horizon: of.horizon as u32,
+        buckets: of.buckets.iter().map(|b| (b.left as u32, b.right as u32)).collect(),
+        points: Vec::new(),
+    };
     let refusal = plan::read(bytes).err().unwrap_or(0) as u32;
-    let Ok(held) = plan::parsed(bytes) else { return (refusal, None) };
-    let mut draft = Draft::of(&held);
-    match wrong {
-        Wrong::LayoutUnread(layout) if layout_of(bytes) == Some(layout) => return (7, None),
-        Wrong::PointsUnread => draft.points.clear(),
-        _ => {}
-    }
-    (refusal, Some(plan_of(&draft)))
+    (refusal, plan::parsed(bytes).ok().map(|of| plan_of(&draft(of))))
 }
 
 /// What the call that begins returns; the bytes are changed in place.
 pub fn begin(plan: &[u8], lent: &mut [u8], wrong: Wrong) -> u32 {
-    let (refusal, Some(p)) = stored_plan(plan, wrong) else { return stored_plan(plan, wrong).0 };
+    let (refusal, Some(p)) = stored_plan(plan) else { return stored_plan(plan).0 };
     let k = p.count as usize;
     let refusal = first([(PLAN, refusal), twelve(lent, length(k, k), wrong)], wrong);
     let mut words = vec![0; PART * k];
@@ -163,7 +162,7 @@ pub fn begin(plan: &[u8], lent: &mut [u8], wrong: Wrong) -> u32 {
 
 /// What the call of a draw returns; the bytes are changed in place.
 pub fn draw(plan: &[u8], saved: &[u8], draw: u32, lent: &mut [u8], wrong: Wrong) -> u32 {
-    let (refusal, Some(p)) = stored_plan(plan, wrong) else { return stored_plan(plan, wrong).0 };
+    let (refusal, Some(p)) = stored_plan(plan) else { return stored_plan(plan).0 };
     let k = p.count as usize;
     let Held { reasons, mut state, mut words } = held(k, saved, wrong);
     let draw = if wrong == Wrong::DrawOf8Bits { draw % 256 } else { draw };

@@ -1,6 +1,6 @@
 //! Mistakes in judging thresholds too close (14), which the comparisons must notice.
 
-use crate::plan::{parsed, thresholds_in, LEAST_APART, MILLION, ORDER};
+use crate::plan::{parsed, thresholds_in, LEAST_APART, MILLION};
 
 #[derive(Clone, Copy, Debug, PartialEq, Eq, PartialOrd, Ord)]
 pub enum Lapse {
@@ -49,7 +49,11 @@ pub struct Judged {
 
 /// The thresholds, where the bytes have them all.
 fn held(stored: &[u8]) -> Vec<u128> {
-    thresholds_in(stored).map_or(vec![], |thresholds| thresholds.iter().map(|t| t.at).collect())
+    let count = stored.first().map_or(0, |low| *low as usize);
+    match stored.len() >= 16 + 12 * count {
+        true => thresholds_in(stored, count).iter().map(|t| t.at).collect(),
+        false => Vec::new(),
+    }
 }
 
 /// How many thresholds come before the first that breaks rule 2.
@@ -72,8 +76,7 @@ impl Judged {
     pub fn of_call(stored: &[u8], past: Option<u32>, own: u32) -> Judged {
         let plan = parsed(stored);
         let unread = plan.as_ref().err().copied().unwrap_or(0) as u32;
-        let others = ORDER.into_iter().filter(|rule| ![1, 14].contains(rule));
-        let broken = plan.map_or(vec![], |plan| others.filter(|rule| plan.breaks(*rule)).collect());
+        let broken = plan.map_or(vec![], |plan| (2..=6).filter(|rule| plan.breaks(*rule)).collect());
         Judged { unread, thresholds: held(stored), broken, past: past.map(u128::from), own }
     }
 
@@ -106,8 +109,8 @@ impl Judged {
             return if early { 14 } else { self.unread };
         }
         let order = match lapse {
-            Lapse::BeforeTwo | Lapse::WithTwo => [14, 2, 3, 4, 16, 5, 6],
-            _ => [2, 14, 3, 4, 16, 5, 6],
+            Lapse::BeforeTwo | Lapse::WithTwo => [14, 2, 3, 4, 5, 6],
+            _ => [2, 14, 3, 4, 5, 6],
         };
         let broken = |rule: &u8| if *rule == 14 { close } else { self.broken.contains(rule) };
         order.into_iter().find(broken).map_or(self.own, u32::from)

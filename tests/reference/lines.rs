@@ -2,10 +2,7 @@
 
 use crate::case::{Case, PlanFile};
 use crate::decided::{Decided, MET, OTHER_ENDS};
-use crate::draft::Draft;
-use crate::laid_out::{layout_of, number_at};
-use crate::plan::{read, Layout, Plan};
-use crate::sequential::program;
+use crate::plan::{read, Plan};
 use crate::tally::{join, named, sized, Counts};
 use std::fs;
 use std::path::Path;
@@ -28,40 +25,10 @@ const MET_NEEDED: u64 = 100;
 const REFUSED_NEEDED: u64 = 100;
 
 /// All that the program can print first.
-const REACHABLE: [&str; 15] = [
+const REACHABLE: [&str; 14] = [
     "open", "decided", "crossed", "wide", "spent", "refused 1", "refused 2", "refused 3", "refused 4",
-    "refused 5", "refused 6", "refused 7", "refused 9", "refused 14", "refused 16",
+    "refused 5", "refused 6", "refused 7", "refused 9", "refused 14",
 ];
-
-/// What a stored plan is, and how many of the random and of the damaged ones must be so.
-const STORED: [(&str, [u64; 2], fn(&Stored) -> bool); 8] = [
-    ("old, accepted", [1000, 1000], |s| s.layout == Some(Layout::Old) && s.accepted),
-    ("old, refused", [0, 1000], |s| s.layout == Some(Layout::Old) && !s.accepted),
-    ("new, accepted", [1000, 1000], |s| s.layout == Some(Layout::New) && s.accepted),
-    ("new, refused", [0, 1000], |s| s.layout == Some(Layout::New) && !s.accepted),
-    ("with points, accepted", [500, 500], |s| s.points && s.accepted),
-    ("with points, refused", [0, 500], |s| s.points && !s.accepted),
-    ("over 264 bytes, accepted", [10, 50], |s| s.length > 264 && s.accepted),
-    ("over 332 bytes", [0, 100], |s| s.length > 332),
-];
-
-/// Random runs whose line would be another one without the points, and how many there must be.
-const TOLD_BY_POINTS: u64 = 100;
-
-struct Stored {
-    layout: Option<Layout>,
-    points: bool,
-    accepted: bool,
-    length: usize,
-}
-
-impl Stored {
-    fn of(bytes: &[u8]) -> Stored {
-        let layout = layout_of(bytes);
-        let points = layout == Some(Layout::New) && number_at(bytes, 16, 2) > 0;
-        Stored { layout, points, accepted: read(bytes).is_ok(), length: bytes.len() }
-    }
-}
 
 pub fn kind_of_line(line: &str) -> String {
     let words: Vec<&str> = line.split_whitespace().collect();
@@ -94,8 +61,6 @@ pub struct Tally {
     pub buckets: Counts<u64>,
     pub close: Counts<&'static str>,
     pub met: Counts<&'static str>,
-    pub stored: Counts<(&'static str, &'static str)>,
-    pub told_by_points: u64,
     pub random: u64,
     pub damaged: u64,
     pub examples: u64,
@@ -114,8 +79,6 @@ impl Tally {
         join(&mut self.buckets, other.buckets);
         join(&mut self.close, other.close);
         join(&mut self.met, other.met);
-        join(&mut self.stored, other.stored);
-        self.told_by_points += other.told_by_points;
         self.random += other.random;
         self.damaged += other.damaged;
         self.examples += other.examples;
@@ -135,13 +98,6 @@ impl Tally {
         }
     }
 
-    fn note_stored(&mut self, group: &'static str, bytes: &[u8]) {
-        let stored = Stored::of(bytes);
-        for (name, _, _) in STORED.iter().filter(|(_, _, is)| is(&stored)) {
-            *self.stored.entry((group, name)).or_default() += 1;
-        }
-    }
-
     /// Takes in one expected line.
     pub fn note(&mut self, run: &Run) {
         let (case, line) = (&run.case, &run.expected);
@@ -153,7 +109,6 @@ impl Tally {
         };
         self.draws += taken;
         self.longest = self.longest.max(taken);
-        self.note_stored(run.group, case.plan.bytes().unwrap_or(&[]));
         match run.group {
             "random" => {
                 self.random += 1;
@@ -162,9 +117,6 @@ impl Tally {
                     *self.thresholds.entry(bytes[0] as u64).or_default() += 1;
                     *self.buckets.entry(bytes[2] as u64).or_default() += 1;
                     let plan = read(bytes).expect("a plan that keeps the rules");
-                    let without = Draft { points: Vec::new(), ..Draft::of(&plan) }.store(Layout::Old);
-                    let told = !plan.points.is_empty() && program(Some(&without), &case.input) != *line;
-                    self.told_by_points += told as u64;
                     for (name, _, _) in CLOSE.iter().filter(|(_, _, is)| is(&plan)) {
                         *self.close.entry(name).or_default() += 1;
                     }
@@ -195,12 +147,6 @@ impl Tally {
         println!("random plans by buckets: {}", sized(&self.buckets));
         println!("random plans with close thresholds: {}", named(&self.close));
         println!("random runs decided, their bucket: {}", named(&self.met));
-        println!("random runs with a line that the points change: {}", self.told_by_points);
-        for group in ["random", "damaged"] {
-            let of = |name| self.stored.get(&(group, name)).copied().unwrap_or(0);
-            let list = STORED.map(|(name, _, _)| format!("{name} {}", of(name)));
-            println!("{group} plans as stored: {}", list.join("; "));
-        }
         println!("by kind: {}", named(&self.kinds));
     }
 
@@ -223,14 +169,6 @@ impl Tally {
         let often = MET.map(|(name, _)| name).into_iter().filter(|name| *name != OTHER_ENDS);
         let seldom = often.filter(|name| self.met.get(name).copied().unwrap_or(0) < MET_NEEDED);
         out.extend(seldom.map(|name| format!("few random runs decided, their bucket: {name}")));
-        for (group, place) in [("random", 0), ("damaged", 1)] {
-            let count = |name| self.stored.get(&(group, name)).copied().unwrap_or(0);
-            let seldom = STORED.iter().filter(|(name, needed, _)| count(*name) < needed[place]);
-            out.extend(seldom.map(|(name, _, _)| format!("few {group} plans stored: {name}")));
-        }
-        if self.told_by_points < TOLD_BY_POINTS {
-            out.push("few random runs with a line that the points change".into());
-        }
         out
     }
 

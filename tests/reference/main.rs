@@ -27,18 +27,11 @@ mod gandy;
 mod host;
 mod judge;
 mod kept;
-mod laid_out;
 mod lapses;
-mod layout_cases;
-mod layout_checks;
-mod layout_damage;
-mod layout_tally;
-mod layouts;
 mod limits;
 mod lines;
 mod met;
 mod misjudged;
-mod mislaid;
 mod misspent;
 mod narrower;
 mod orders;
@@ -49,13 +42,10 @@ mod point_draws;
 mod point_facts;
 mod point_limits;
 mod point_plans;
-mod point_rows;
-mod point_runs;
 mod point_tests;
 mod points;
 mod random;
 mod rng;
-mod round_trips;
 mod rounding;
 mod rows;
 mod runner;
@@ -68,7 +58,6 @@ mod sequential;
 mod simulation;
 mod spoiled;
 mod star;
-mod stored_examples;
 mod table;
 mod tally;
 mod through;
@@ -87,7 +76,6 @@ const USAGE: &str = "usage: reference COMMAND
   counting [--seed N]   the library's runs that count to a p-value, and their shares over all orders
   damaged               what the example in C made of damaged files, as tests/shuffle kept them, against the reference
   gandy [--seed N]      the library's boundaries and the mean draws beside the published ones
-  layouts [--seed N]    the library's stored plans in both layouts, read, written and converted, against the reference
   narrower [--seed N]   the library's bucket where several contain the interval, against the reference
   points [--seed N]     the library's entries and tests under plans that spend by points, against the reference
   rounding [--seed N]   the library's new masses and masses rounded, where sums leave chosen remainders, against the
@@ -144,7 +132,6 @@ fn main() {
             damaged_files::run()
         }
         "gandy" => gandy::run(seed()),
-        "layouts" => layouts::run(seed()),
         "narrower" => narrower::run(seed()),
         "points" => points::run(seed()),
         "rounding" => rounding::run(seed()),

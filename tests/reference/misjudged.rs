@@ -1,4 +1,4 @@
-//! Mistakes in judging points (16), and the room for a plan that has some, which the comparisons must notice.
+//! Mistakes in judging points (16) and in writing a plan that has some (17), which the comparisons must notice.
 
 use crate::host::Plan;
 use crate::plan::MOST_POINTS;
@@ -35,12 +35,12 @@ pub enum Misjudged {
     AfterCall,
     /// The delay is not judged where there are points.
     DelayUnjudged,
-    /// Points in a plan to be written are still refused by 17.
-    StillSeventeen,
-    /// 12 by another length: of the form without its points, with all eight places, in the old layout.
-    RoomWithoutPoints,
-    RoomForEight,
-    RoomByOld,
+    /// 17 in another place, or by what stands in the places; with none, points are dropped.
+    SeventeenFirst,
+    SeventeenBefore5,
+    SeventeenAfter12,
+    SeventeenNever,
+    SeventeenByPlaces,
 }
 
 /// Those to be noticed wherever a plan is judged.
@@ -56,11 +56,12 @@ pub fn misjudged() -> Vec<Misjudged> {
 }
 
 /// And where one is written.
-pub const WRITING: [Misjudged; 4] = [
-    Misjudged::StillSeventeen,
-    Misjudged::RoomWithoutPoints,
-    Misjudged::RoomForEight,
-    Misjudged::RoomByOld,
+pub const SEVENTEEN: [Misjudged; 5] = [
+    Misjudged::SeventeenFirst,
+    Misjudged::SeventeenBefore5,
+    Misjudged::SeventeenAfter12,
+    Misjudged::SeventeenNever,
+    Misjudged::SeventeenByPlaces,
 ];
 
 /// What the mistakes need of a call.
@@ -68,10 +69,9 @@ pub struct Judged<'a> {
     pub plan: &'a Plan,
     /// The rules that it breaks, but for 16.
     pub broken: Vec<u8>,
-    /// What refuses the call where the plan does not.
+    /// What refuses the call where neither the plan nor 17 does.
     pub own: u32,
-    /// Of a writing of the plan the lent bytes, and those of the form.
-    pub room: Option<(usize, usize)>,
+    pub writes: bool,
 }
 
 fn step_bad(step: u32, last: u32, mistake: Misjudged) -> bool {
@@ -155,30 +155,34 @@ impl Judged<'_> {
     fn breaks(&self, rule: u8, mistake: Misjudged) -> bool {
         let p = self.plan;
         match rule {
-            16 if mistake == Misjudged::AfterCall && self.own > 0 => false,
+            16 if mistake == Misjudged::AfterCall && (self.own > 0 || self.seventeen(mistake)) => false,
             16 => self.sixteen(mistake),
             4 if mistake == Misjudged::DelayUnjudged && p.points > 0 => p.horizon < 1 || p.horizon > 50_000,
             rule => self.broken.contains(&rule),
         }
     }
 
-    /// What refuses the call where the plan does not, with the mistake made.
-    fn own(&self, mistake: Misjudged) -> u32 {
-        let Some((lent, form)) = self.room else { return self.own };
-        let points = 8 * self.plan.placed();
-        let asked = match mistake {
-            Misjudged::StillSeventeen if points > 0 => return 17,
-            Misjudged::RoomWithoutPoints => form - points,
-            Misjudged::RoomForEight => form - points + 8 * MOST_POINTS,
-            Misjudged::RoomByOld => form - points - 4,
-            _ => return self.own,
+    /// Does 17 refuse the writing, but for its place?
+    fn seventeen(&self, mistake: Misjudged) -> bool {
+        let points = match mistake {
+            Misjudged::SeventeenNever => false,
+            Misjudged::SeventeenByPlaces => self.plan.steps.iter().chain(&self.plan.shares).any(|number| *number > 0),
+            _ => self.plan.points > 0,
         };
-        if lent < asked { 12 } else { 0 }
+        self.writes && points
     }
 
     /// The refusal of the call with the mistake made, 0 if none.
     pub fn refusal(&self, mistake: Misjudged) -> u32 {
+        let seventeen = self.seventeen(mistake);
         let first = self.order(mistake).into_iter().find(|rule| self.breaks(*rule, mistake));
-        first.map_or_else(|| self.own(mistake), u32::from)
+        match (mistake, first) {
+            (Misjudged::SeventeenFirst, _) if seventeen => 17,
+            (Misjudged::SeventeenBefore5, Some(5 | 6)) if seventeen => 17,
+            (_, Some(rule)) => rule.into(),
+            (Misjudged::SeventeenAfter12, None) if self.own > 0 => self.own,
+            (_, None) if seventeen => 17,
+            (_, None) => self.own,
+        }
     }
 }

@@ -5,7 +5,7 @@ use crate::boundary::Slip;
 use crate::draft::{two_buckets, Draft};
 use crate::draws::character;
 use crate::host::{plan_of, Plan, Record, State, ABOVE, AT_MOST, OPEN};
-use crate::plan::{Layout, LARGEST_ALLOWANCE, LEAST_APART, WHOLE};
+use crate::plan::{LARGEST_ALLOWANCE, LEAST_APART, WHOLE};
 use crate::rng::Rng;
 use crate::scenes::{made_up_with, plan_past_counts, Scene};
 use crate::sequential::program_with;
@@ -97,7 +97,7 @@ pub fn overlapping_run(rng: &mut Rng) -> (Draft, Vec<bool>) {
         (draft, draws)
     };
     let another = |(draft, draws): &(Draft, Vec<bool>)| {
-        let stored = draft.store(Layout::New);
+        let stored = draft.store();
         let input: Vec<u8> = draws.iter().map(|draw| character(*draw)).collect();
         let line = |slip: Slip| program_with(Some(&stored), &input, slip);
         line(Slip::None) != line(Slip::FirstInOrder)

@@ -157,103 +157,44 @@ impl Plan {
     }
 }
 
-/// The layouts of a stored plan, told apart by the offset of its thresholds. The old one has no points.
-#[derive(Clone, Copy, Debug, PartialEq, Eq, PartialOrd, Ord)]
-pub enum Layout {
-    Old,
-    New,
+/// A number of `size` bytes, little end first.
+fn number(stored: &[u8], from: usize, size: usize) -> u128 {
+    (0..size).map(|i| (stored[from + i] as u128) << (8 * i)).sum()
 }
 
-/// What is left of stored bytes: each number is taken off its front. Whatever does not fit is refused by 7.
-struct Rest<'a> {
-    left: &'a [u8],
-    taken: u128,
+/// The thresholds of a stored plan that has so many.
+pub fn thresholds_in(stored: &[u8], count: usize) -> Vec<Threshold> {
+    let one = |from| Threshold { at: number(stored, from, 4), allowance: number(stored, from + 4, 8) };
+    (0..count).map(|i| one(16 + 12 * i)).collect()
 }
 
-impl Rest<'_> {
-    /// A number of so many bytes, little end first.
-    fn number(&mut self, size: usize) -> Result<u128, u8> {
-        let (number, left) = self.left.split_at_checked(size).ok_or(7)?;
-        (self.left, self.taken) = (left, self.taken + size as u128);
-        Ok(number.iter().rev().fold(0, |sum, byte| sum << 8 | *byte as u128))
-    }
-
-    fn pairs<T>(&mut self, count: u128, sizes: [usize; 2], one: fn(u128, u128) -> T) -> Result<Vec<T>, u8> {
-        (0..count).map(|_| Ok(one(self.number(sizes[0])?, self.number(sizes[1])?))).collect()
-    }
-
-    fn thresholds(&mut self, count: u128) -> Result<Vec<Threshold>, u8> {
-        self.pairs(count, [4, 8], |at, allowance| Threshold { at, allowance })
-    }
-
-    /// Does what comes next stand where the header says?
-    fn stands_at(&self, offset: u128) -> Result<(), u8> {
-        if offset == self.taken { Ok(()) } else { Err(7) }
-    }
-}
-
-/// The numbers with which both layouts begin.
-struct Header {
-    thresholds: u128,
-    buckets: u128,
-    thresholds_at: u128,
-    buckets_at: u128,
-    delay: u128,
-    horizon: u128,
-}
-
-impl Header {
-    fn take(rest: &mut Rest) -> Result<Header, u8> {
-        Ok(Header {
-            thresholds: rest.number(2)?,
-            buckets: rest.number(2)?,
-            thresholds_at: rest.number(2)?,
-            buckets_at: rest.number(2)?,
-            delay: rest.number(4)?,
-            horizon: rest.number(4)?,
-        })
-    }
-
-    /// The new layout's header goes on, with the count of points and their offset.
-    fn take_points(&self, rest: &mut Rest) -> Result<Option<(u128, u128)>, u8> {
-        let longer = self.thresholds_at == 20;
-        let points = if longer { Some((rest.number(2)?, rest.number(2)?)) } else { None };
-        rest.stands_at(self.thresholds_at)?;
-        Ok(points)
-    }
-}
-
-/// The thresholds of a stored plan, if it has them all, whatever else is wrong with it.
-pub fn thresholds_in(stored: &[u8]) -> Result<Vec<Threshold>, u8> {
-    let rest = &mut Rest { left: stored, taken: 0 };
-    let header = Header::take(rest)?;
-    header.take_points(rest)?;
-    rest.thresholds(header.thresholds)
-}
-
-/// The plan that is stored, in either layout, its rules not yet judged but for the counts; or the refusal.
+/// The plan that is stored, its rules not yet judged but for the counts; or the refusal.
 pub fn parsed(stored: &[u8]) -> Result<Plan, u8> {
-    let rest = &mut Rest { left: stored, taken: 0 };
-    let header = Header::take(rest)?;
-    if !(1..=10).contains(&header.thresholds) || !(2..=16).contains(&header.buckets) {
-        return Err(1);
-    }
-    let points = header.take_points(rest)?;
-    let thresholds = rest.thresholds(header.thresholds)?;
-    rest.stands_at(header.buckets_at)?;
-    let buckets = rest.pairs(header.buckets, [4, 4], |left, right| Bucket { left, right })?;
-    let points = match points {
-        Some((count, _)) if count > MOST_POINTS as u128 => return Err(7),
-        Some((count, at)) => {
-            rest.stands_at(at)?;
-            rest.pairs(count, [4, 4], |step, share| Point { step, share })?
-        }
-        None => Vec::new(),
-    };
-    if !rest.left.is_empty() {
+    if stored.len() < 16 {
         return Err(7);
     }
-    Ok(Plan { thresholds, buckets, delay: header.delay, horizon: header.horizon, points })
+    let count_thresholds = number(stored, 0, 2) as usize;
+    let count_buckets = number(stored, 2, 2) as usize;
+    if !(1..=10).contains(&count_thresholds) || !(2..=16).contains(&count_buckets) {
+        return Err(1);
+    }
+    let buckets_from = 16 + 12 * count_thresholds;
+    if number(stored, 4, 2) != 16 || number(stored, 6, 2) != buckets_from as u128 {
+        return Err(7);
+    }
+    if stored.len() != buckets_from + 8 * count_buckets {
+        return Err(7);
+    }
+    Ok(Plan {
+        thresholds: thresholds_in(stored, count_thresholds),
+        buckets: (0..count_buckets)
+            .map(|i| buckets_from + 8 * i)
+            .map(|from| Bucket { left: number(stored, from, 4), right: number(stored, from + 4, 4) })
+            .collect(),
+        delay: number(stored, 8, 4),
+        horizon: number(stored, 12, 4),
+        points: Vec::new(),
+    })
 }
 
 /// Reads a stored plan, or gives the refusal.

@@ -5,9 +5,8 @@ use crate::form::Numbers;
 use crate::host::{self, draft_of, Plan, Report, State, Test, Written, OPEN, REFUSED};
 use crate::judge::{self, Fault, FIRST, PART};
 use crate::kept;
-use crate::misjudged::{misjudged, Judged, Misjudged, WRITING};
-use crate::plan::{Layout, ORDER, WHOLE};
-use crate::point_rows::{Outcome, Row, MET, REASONS};
+use crate::misjudged::{misjudged, Judged, Misjudged, SEVENTEEN};
+use crate::plan::{ORDER, WHOLE};
 use crate::rng::Rng;
 use crate::scenes::past_points;
 use crate::tally::{Counts, Differing};
@@ -39,14 +38,9 @@ impl Case {
         let mut words = vec![0; PART * k];
         words.iter_mut().step_by(PART).for_each(|word| *word = WHOLE as u64);
         let saved = Numbers::of(k, &BEGUN, &words, Wrong::None).store();
-        let form = draft_of(&plan).map_or(0, |draft| draft.store(Layout::New).len());
+        let form = draft_of(&plan).map_or(0, |draft| draft.store().len());
         let room = rng.bytes(saved.len());
         Case { plan, words, draw: 1, lent: rng.bytes(form), room, saved }
-    }
-
-    /// The length of the plan's form.
-    fn form(&self) -> usize {
-        20 + 12 * self.plan.count as usize + 8 * self.plan.buckets as usize + 8 * self.plan.placed()
     }
 
     /// At times more than the plan is wrong.
@@ -146,14 +140,14 @@ impl Entry {
         }
     }
 
-    /// What refuses the call where the plan does not.
+    /// What refuses the call where neither the plan nor 17 does.
     fn own(self, case: &Case) -> u32 {
-        let k = case.plan.count as usize;
+        let (k, b) = (case.plan.count as usize, case.plan.buckets as usize);
         let lends_words = matches!(self, Entry::Begin | Entry::Draw | Entry::WriteTest | Entry::ReadTest);
         match self {
             _ if lends_words && case.words.len() != PART * k => 8,
             Entry::Draw if case.draw > 1 => 9,
-            Entry::WritePlan if case.lent.len() < case.form() => 12,
+            Entry::WritePlan if case.lent.len() < 16 + 12 * k + 8 * b => 12,
             Entry::WriteTest if case.room.len() < 24 + 44 * k => 12,
             Entry::ReadTest if case.saved.len() != 24 + 44 * k => 15,
             _ => 0,
@@ -163,7 +157,7 @@ impl Entry {
     fn rows(self) -> Vec<Row> {
         let more = match self {
             Entry::PlanRefusal | Entry::ReportOn => vec![],
-            Entry::WritePlan => [&WRITING[..], &[Misjudged::AfterCall]].concat(),
+            Entry::WritePlan => [&SEVENTEEN[..], &[Misjudged::AfterCall]].concat(),
             _ => vec![Misjudged::AfterCall],
         };
         let mut out: Vec<Row> = MET.iter().map(|(name, _)| Row::Accepted(name)).collect();
@@ -172,10 +166,71 @@ impl Entry {
         out.extend(ORDER.into_iter().filter(|rule| *rule != 16).map(Row::Beside));
         out.extend(misjudged().into_iter().chain(more).map(Row::Noticed));
         if self == Entry::WritePlan {
-            out.extend([Row::Written, Row::Twelve(true), Row::Twelve(false)]);
+            out.extend([Row::Seventeen(false), Row::Seventeen(true), Row::Twelve]);
         }
         out
     }
+}
+
+#[derive(Clone, Copy, PartialEq, Eq, PartialOrd, Ord)]
+enum Row {
+    /// So many points in a plan that is accepted, and what they are like.
+    Points(u32),
+    Accepted(&'static str),
+    /// Refused by 16 for one reason.
+    Alone(&'static str),
+    /// 16 broken and of the others this one first: the earlier of the two refuses.
+    Beside(u8),
+    /// Refused by 17, with room for the form or without.
+    Seventeen(bool),
+    /// Refused by 12, with no points but something in their places.
+    Twelve,
+    Noticed(Misjudged),
+}
+
+/// What counted points that keep the rules are like.
+const MET: [(&str, fn(&Plan) -> bool); 9] = [
+    ("a point at step 1", |p| counted(p).any(|(step, _)| step == 1)),
+    ("a point at step N", |p| counted(p).any(|(step, _)| step == p.horizon)),
+    ("neighbouring steps", |p| pairs(p).any(|(step, next)| step.0 + 1 == next.0)),
+    ("a share of 0", |p| counted(p).any(|(_, share)| share == 0)),
+    ("equal shares", |p| pairs(p).any(|(share, next)| share.1 == next.1)),
+    ("a share of 1,000,000", |p| counted(p).any(|(_, share)| share == 1_000_000)),
+    ("points past the count that break 16", |p| p.points > 0 && all_places(p) == 16),
+    ("points past the count that keep 16", |p| p.points > 0 && p.points < 8 && all_places(p) == 0),
+    ("no points, and places that are not zero", |p| p.points == 0 && past(p).any(|point| point != (0, 0))),
+];
+
+/// Why 16 refuses.
+const REASONS: [(&str, fn(&Plan) -> bool); 11] = [
+    ("nine points", |p| p.points == 9),
+    ("more than nine points", |p| p.points > 9 && p.points < u32::MAX),
+    ("2^32 - 1 points", |p| p.points == u32::MAX),
+    ("a step 0", |p| counted(p).any(|(step, _)| step == 0)),
+    ("a step N + 1", |p| counted(p).any(|(step, _)| step == p.horizon + 1)),
+    ("a step over N + 1", |p| counted(p).any(|(step, _)| step > p.horizon + 1)),
+    ("equal steps", |p| pairs(p).any(|(point, next)| point.0 == next.0)),
+    ("falling steps", |p| pairs(p).any(|(point, next)| point.0 > next.0)),
+    ("a share of 1,000,001", |p| counted(p).any(|(_, share)| share == 1_000_001)),
+    ("a share over 1,000,001", |p| counted(p).any(|(_, share)| share > 1_000_001)),
+    ("falling shares", |p| pairs(p).any(|(point, next)| point.1 > next.1)),
+];
+
+fn counted(p: &Plan) -> impl Iterator<Item = (u32, u32)> {
+    p.steps.into_iter().zip(p.shares).take(p.placed())
+}
+
+fn past(p: &Plan) -> impl Iterator<Item = (u32, u32)> {
+    p.steps.into_iter().zip(p.shares).skip(p.placed())
+}
+
+/// The refusal if all eight were counted.
+fn all_places(p: &Plan) -> u32 {
+    judge::plan_refusal(&Plan { points: 8, ..*p })
+}
+
+fn pairs(p: &Plan) -> impl Iterator<Item = ((u32, u32), (u32, u32))> {
+    counted(p).zip(counted(p).skip(1))
 }
 
 /// The rules that a plan breaks, in their order; of counts that break rule 1 no more is said, but for 16.
@@ -185,6 +240,49 @@ fn broken(p: &Plan) -> Vec<u8> {
         return if sixteen { vec![1, 16] } else { vec![1] };
     };
     ORDER.into_iter().filter(|rule| draft.plan().breaks(*rule)).collect()
+}
+
+/// What is asked of one call.
+struct Outcome<'a> {
+    case: &'a Case,
+    broken: &'a [u8],
+    judged: &'a Judged<'a>,
+    refusal: u32,
+}
+
+impl Row {
+    fn name(self) -> String {
+        match self {
+            Row::Points(number) => format!("{number} points, accepted"),
+            Row::Accepted(what) => format!("{what}, accepted"),
+            Row::Alone(what) => format!("{what}, refused 16"),
+            Row::Beside(rule) => format!("16 broken with {rule}, the earlier refuses"),
+            Row::Seventeen(true) => "refused 17, with room".into(),
+            Row::Seventeen(false) => "refused 17, with too little room".into(),
+            Row::Twelve => "no points, places that are not zero, refused 12".into(),
+            Row::Noticed(mistake) => format!("noticed: {mistake:?}"),
+        }
+    }
+
+    fn is(self, of: &Outcome) -> bool {
+        let p = &of.case.plan;
+        let accepted = of.broken.is_empty();
+        match self {
+            Row::Points(number) => accepted && p.points == number,
+            Row::Accepted(name) => accepted && MET.iter().any(|(met, is)| *met == name && is(p)),
+            Row::Alone(name) => {
+                let reasons = || REASONS.iter().filter(|(_, is)| is(p)).map(|(reason, _)| *reason);
+                of.broken == [16] && reasons().eq([name]) && of.refusal == 16
+            }
+            Row::Beside(rule) => {
+                let two = of.broken.contains(&16) && of.judged.broken.first() == Some(&rule);
+                two && of.refusal == of.broken[0] as u32
+            }
+            Row::Seventeen(room) => of.refusal == 17 && room == (of.judged.own == 0),
+            Row::Twelve => of.refusal == 12 && past(p).any(|point| point != (0, 0)),
+            Row::Noticed(mistake) => of.judged.refusal(mistake) != of.refusal,
+        }
+    }
 }
 
 #[derive(Default)]
@@ -217,10 +315,10 @@ impl Tally {
             self.calls += 1;
             self.again += (case.plan != other.plan) as u64;
             let others = broken.iter().copied().filter(|rule| *rule != 16).collect();
-            let room = (entry == Entry::WritePlan).then(|| (case.lent.len(), case.form()));
-            let judged = Judged { plan: &case.plan, broken: others, own: entry.own(case), room };
+            let writes = entry == Entry::WritePlan;
+            let judged = Judged { plan: &case.plan, broken: others, own: entry.own(case), writes };
             assert_eq!(judged.refusal(Misjudged::None), expected.refusal(), "no mistake, but another refusal");
-            let of = Outcome { plan: &case.plan, broken: &broken, judged: &judged, refusal };
+            let of = Outcome { case, broken: &broken, judged: &judged, refusal };
             for row in entry.rows() {
                 *self.counts.entry((row, entry)).or_default() += row.is(&of) as u64;
             }

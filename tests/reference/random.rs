@@ -6,7 +6,6 @@ use crate::draft::{star_plan, two_buckets, Draft};
 use crate::draws::{chosen, draws, near, render, steer, Style};
 use crate::overlap::overlapping_run;
 use crate::plan::{LARGEST_ALLOWANCE, LEAST_APART};
-use crate::point_runs;
 use crate::rng::Rng;
 use crate::sequential::{program, Mark};
 
@@ -19,12 +18,9 @@ pub const CROSSED_RUNS: u64 = 300;
 pub const ROUNDING_RUNS: u64 = 300;
 pub const OVERLAP_RUNS: u64 = 400;
 pub const SHORT_RUNS: u64 = 4300;
-pub const POINT_RUNS: u64 = 800;
 /// The place of the first of the crossed ones.
 pub const CROSSED_FROM: u64 = HORIZON_RUNS + LONGER_RUNS + LONG_RUNS + WIDE_RUNS;
-/// The place of the first of those with points.
-pub const POINTS_FROM: u64 = CROSSED_FROM + CROSSED_RUNS + ROUNDING_RUNS + OVERLAP_RUNS + SHORT_RUNS;
-pub const RANDOM_RUNS: u64 = POINTS_FROM + POINT_RUNS;
+pub const RANDOM_RUNS: u64 = CROSSED_FROM + CROSSED_RUNS + ROUNDING_RUNS + OVERLAP_RUNS + SHORT_RUNS;
 
 fn case(rng: &mut Rng, kind: &'static str, draft: &Draft, draws: &[bool]) -> Case {
     let input = render(rng, draws);
@@ -32,7 +28,7 @@ fn case(rng: &mut Rng, kind: &'static str, draft: &Draft, draws: &[bool]) -> Cas
         0 => Feed::Pieces,
         _ => Feed::Whole,
     };
-    Case { kind, plan: PlanFile::any_of(rng, draft), input, feed }
+    Case { kind, plan: PlanFile::of(draft), input, feed }
 }
 
 /// A run to a far horizon.
@@ -211,17 +207,6 @@ fn short_run(rng: &mut Rng, place: u64) -> Case {
     out
 }
 
-/// By points: most times any, and some that cross, or go wide or do not where the first point is late.
-fn point_run(rng: &mut Rng, place: u64) -> Case {
-    let (draft, draws) = match place % 40 {
-        0 => point_runs::crossing(rng),
-        1 => point_runs::widening(rng, place / 40),
-        2 => point_runs::narrowing(rng),
-        _ => point_runs::any_run(rng, place),
-    };
-    case(rng, "points", &draft, &draws)
-}
-
 pub fn random_case(seed: u64, place: u64) -> Case {
     let rng = &mut Rng::new(seed, 1_000_000 + place);
     let mut rest = place;
@@ -246,9 +231,7 @@ pub fn random_case(seed: u64, place: u64) -> Case {
         rounding_run(rng)
     } else if within(OVERLAP_RUNS) {
         overlap_run(rng)
-    } else if within(SHORT_RUNS) {
-        short_run(rng, rest)
     } else {
-        point_run(rng, rest)
+        short_run(rng, rest)
     }
 }

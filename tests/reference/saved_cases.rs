@@ -1,7 +1,6 @@
 //! Random tests to be saved, and bytes that may be handed on as saved ones.
 
 use crate::any_plan::{any_horizon, any_plan, plan_of_size};
-use crate::any_points::{any_points, damage_points};
 use crate::damage::{allowance, bucket, counts, cover, delay_or_horizon, order, threshold};
 use crate::damage::{extend, flip_bits, header, truncate};
 use crate::draft::Draft;
@@ -12,9 +11,7 @@ use crate::form_damage::{damage, damage_bytes};
 use crate::host::{draft_of, plan_of, Record, State, ABOVE, AT_MOST, OPEN};
 use crate::judge::{most_rounded, PART};
 use crate::kept::fitting;
-use crate::layout_damage::layout;
 use crate::overlap::{any_marks, before_marks, overlapping_run, past_counts};
-use crate::point_runs;
 use crate::rng::Rng;
 use crate::scenes::{any_rounded, good_plan, made_up, made_up_with, often_settled, spoil, spoil_judged, Scene};
 use crate::wrong::Wrong;
@@ -58,7 +55,6 @@ pub fn any_run(rng: &mut Rng, place: u64) -> (Draft, Vec<u32>) {
         _ if place == 1 => (widening_plan(50_000), (0..1200).map(|n| n % 2 == 1).collect()),
         2 => (crossing_plan(), (0..120).map(|n| n >= 80).collect()),
         3..=4 => overlapping_run(rng),
-        5..=6 => point_runs::any_run(rng, place / 8),
         _ => {
             let (least, horizon) = (rng.pick(&[1, 1, 1000]), any_horizon(rng));
             let draft = any_plan(rng, least, horizon);
@@ -74,10 +70,7 @@ pub fn any_run(rng: &mut Rng, place: u64) -> (Draft, Vec<u32>) {
 pub fn sound_scene(rng: &mut Rng) -> Scene {
     let (any, horizon, least) = (rng.range(1, 10) as usize, any_horizon(rng), rng.pick(&[1, 1, 1000]));
     let k = rng.pick(&[1, 1, 2, 3, any, any]);
-    let mut draft = plan_of_size(rng, k, least, horizon);
-    if rng.chance(1, 2) {
-        draft.points = any_points(rng, horizon);
-    }
+    let draft = plan_of_size(rng, k, least, horizon);
     let plan = past_counts(rng, &draft);
     match rng.below(10) {
         0..=1 => {
@@ -140,8 +133,7 @@ fn spoil_beside(rng: &mut Rng, scene: &mut Scene) {
         (1, _) => scene.words.push(0),
         (2..=3, Some(mut draft)) => {
             // Twice what seldom breaks its rule.
-            let numbers = [threshold, order, allowance, allowance, delay_or_horizon, damage_points];
-            let ways = [&numbers[..], &[counts, bucket, cover, cover]].concat();
+            let ways = [counts, threshold, order, allowance, allowance, delay_or_horizon, bucket, cover, cover];
             rng.pick(&ways)(rng, &mut draft);
             scene.plan = plan_of(&draft);
         }
@@ -169,14 +161,14 @@ pub fn any_scene(rng: &mut Rng, good: &Scene) -> (Scene, Vec<u8>) {
     (scene, bytes)
 }
 
-/// The plan's bytes in either layout, at times those of another plan; damaged ones where it has none, and at times.
+/// The plan's bytes, at times those of another plan; damaged ones where it has none, and at times.
 pub fn plan_bytes(rng: &mut Rng, scene: &Scene, good: &Scene) -> Vec<u8> {
     let plan = if rng.chance(1, 16) { good_plan(rng) } else { scene.plan };
-    let stored = draft_of(&plan).map(|draft| draft.store_any(rng));
+    let stored = draft_of(&plan).map(|draft| draft.store());
     let damaged = stored.is_none() || rng.chance(1, 12);
-    let mut out = stored.unwrap_or_else(|| draft_of(&good.plan).expect("counts that keep rule 1").store_any(rng));
+    let mut out = stored.unwrap_or_else(|| draft_of(&good.plan).expect("counts that keep rule 1").store());
     if damaged {
-        rng.pick(&[header, header, layout, layout, truncate, extend, flip_bits])(rng, &mut out);
+        rng.pick(&[header, header, truncate, extend, flip_bits])(rng, &mut out);
     }
     out
 }

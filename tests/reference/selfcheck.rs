@@ -11,14 +11,12 @@ use crate::examples::{self, gap_plan, half_allowance_plan, largest_plan, narrowe
 use crate::host::Record;
 use crate::judge::{self, Fault};
 use crate::lapses::{lapses, Judged, Lapse};
-use crate::layout_checks;
 use crate::lines::kind_of_line;
-use crate::plan::{read, Layout, LARGEST_ALLOWANCE, MOST_POINTS, WHOLE};
+use crate::plan::{read, LARGEST_ALLOWANCE, MOST_POINTS, WHOLE};
 use crate::point_facts::by_points;
 use crate::random::{random_case, CROSSED_FROM, CROSSED_RUNS};
 use crate::rng::Rng;
 use crate::runner::start;
-use crate::saved_examples::bytes_of;
 use crate::sequential::{program, program_with, Answer, Mark, Test};
 use crate::tally::{named, Counts};
 use std::collections::BTreeMap;
@@ -64,7 +62,7 @@ fn rounded(at: u128, allowance: u128, delay: u128, steps: usize) -> Vec<u64> {
 
 fn marked(thresholds: Vec<(u32, u64)>, buckets: Vec<(u32, u32)>, marks: &[Mark]) -> ((u128, u128), Answer) {
     let draft = Draft { thresholds, buckets, ..plan_f() };
-    let plan = read(&draft.store(Layout::New)).expect("a plan");
+    let plan = read(&draft.store()).expect("a plan");
     let mut test = Test::begin(&plan, Slip::None);
     test.marks = marks.to_vec();
     (test.interval(), test.answer())
@@ -99,22 +97,22 @@ fn numbered(report: &mut Report) {
     report.check("P7", p7 == ((10_000, 1_000_000), Answer::Open));
     let p8 = marked(pair, three, &[Mark::AtMost(1), Mark::Above(2)]);
     report.check("P8", p8 == ((50_000, 10_000), Answer::Crossed));
-    for layout in [Layout::Old, Layout::New] {
-        report.check("P9", read(&half_allowance_plan().store(layout)).err() == Some(3));
-        report.check("P10", read(&gap_plan().store(layout)).err() == Some(6));
-        report.check("the star plan keeps the rules", read(&star_plan().store(layout)).is_ok());
-    }
-    let plan = read(&plan_f().store(Layout::Old)).expect("plan F");
+    report.check("P9", read(&half_allowance_plan().store()).err() == Some(3));
+    report.check("P10", read(&gap_plan().store()).err() == Some(6));
+
+    report.check("plan F is 44 bytes", plan_f().store().len() == 44);
+    let plan = read(&plan_f().store()).expect("plan F");
     let mut ended = Test::begin(&plan, Slip::None);
     for _ in 0..5 {
         report.check("plan F takes a draw", ended.take(1).is_ok());
     }
     report.check("draw 2 to an ended test: 9", ended.take(2) == Err(9));
     report.check("draw 1 to an ended test: 10", ended.take(1) == Err(10));
-    let largest = largest_plan().store(Layout::Old);
-    report.check("the largest plan of old is 264 bytes", largest.len() == 264 && read(&largest).is_ok());
-    let narrower = narrower_plan().store(Layout::Old);
-    report.check("the plan of overlapping buckets by its bytes", narrower == bytes_of(NARROWER_PLAN));
+    let largest = largest_plan();
+    report.check("the largest plan is 264 bytes", largest.store().len() == 264 && read(&largest.store()).is_ok());
+    let hex: String = narrower_plan().store().iter().map(|byte| format!("{byte:02x}")).collect();
+    report.check("the plan of overlapping buckets by its bytes", hex == NARROWER_PLAN);
+    report.check("the star plan keeps the rules", read(&star_plan().store()).is_ok());
 }
 
 /// Inputs whose reading is to fail do so, after their bytes: `cat` hands these on and says so.
@@ -275,7 +273,6 @@ pub fn run(seed: u64) -> bool {
     agreement::checks(seed).iter().for_each(|(name, good)| report.check(name, *good));
     mistakes(&mut report, seed);
     lapses_shown(&mut report, seed);
-    layout_checks::checks(seed).iter().for_each(|(name, good)| report.check(name, *good));
     println!("check: {} passed, {} failed, {:.1} s", report.passed, report.failed, began.elapsed().as_secs_f64());
     report.failed == 0
 }

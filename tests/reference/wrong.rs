@@ -3,7 +3,6 @@
 use crate::form::{Reason, REASONS};
 use crate::judge::{Fault, CLAUSES, COUNTING, JUDGING, NEVER_ALONE, NEVER_TAKEN};
 use crate::outcomes;
-use crate::plan::Layout;
 
 #[derive(Clone, Copy, Debug, PartialEq)]
 pub enum Wrong {
@@ -40,10 +39,6 @@ pub enum Wrong {
     CrossedWideSwapped,
     BucketFrom0,
     DrawOf8Bits,
-    /// Plan bytes in this layout are refused by 7.
-    LayoutUnread(Layout),
-    /// The plan's points are judged, and then it is taken to have none.
-    PointsUnread,
 }
 
 /// The entries, as the tallies name them.
@@ -51,7 +46,7 @@ pub const WRITE: &str = "write_test";
 pub const READ: &str = "read_test";
 pub const BEGIN: &str = "vimorake_begin";
 pub const DRAW: &str = "vimorake_draw";
-/// The same, of a chain of calls: only mistakes in counting masses rounded, and in spending by points, are tried.
+/// The same, of a chain of calls: only mistakes in counting masses rounded are tried.
 pub const CHAIN: &str = "vimorake_draw in chains";
 
 /// Stands for the plan's refusals where an order is spoken of.
@@ -125,7 +120,7 @@ fn refusals(entry: &str) -> impl Iterator<Item = u32> {
 
 pub fn mistakes(entry: &str) -> Vec<Wrong> {
     if entry == CHAIN {
-        return [&COUNTING.map(Wrong::Judge)[..], &[Wrong::PointsUnread]].concat();
+        return COUNTING.map(Wrong::Judge).to_vec();
     }
     let mut out = orders(entry);
     out.extend(refusals(entry).map(Wrong::RefusedWrites));
@@ -140,14 +135,8 @@ pub fn mistakes(entry: &str) -> Vec<Wrong> {
     }
     match entry {
         WRITE | READ => out.extend(refusals(entry).map(Wrong::RefusedHandsBack)),
-        DRAW => {
-            out.extend([Wrong::TwelveByOld, Wrong::CrossedWideSwapped, Wrong::BucketFrom0, Wrong::DrawOf8Bits]);
-            out.push(Wrong::PointsUnread);
-        }
+        DRAW => out.extend([Wrong::TwelveByOld, Wrong::CrossedWideSwapped, Wrong::BucketFrom0, Wrong::DrawOf8Bits]),
         _ => {}
-    }
-    if entry == BEGIN || entry == DRAW {
-        out.extend([Layout::Old, Layout::New].map(Wrong::LayoutUnread));
     }
     if entry == READ || entry == DRAW {
         out.extend(REASONS.map(Wrong::Unjudged));

@@ -27,10 +27,10 @@ use Rattle.little.specs.Little.{to_le, put_at}
 use Rattle.stored_plan.specs.Reading.{decoded}
 use Rattle.stored_plan.specs.Inner.{Into}
 use Rattle.stored_plan.specs.declared.Read.{Read}
-use Rattle.stored_plan.proofs.RoundTrip.{read_accepted}
 use Rattle.saved_test.specs.Form.{mass_size, record_offset, form_size, form_limit, counts_between, live_count, masses_to, mass_bytes, saved_size, saved_header, record_entries, mass_entries}
 use Rattle.saved_test.proofs.WritingLaws.{form_put}
 use Rattle.calls.specs.Calls.{answer_number, own_words, begun_on, drawn_on, called_begin, called_draw}
+use Rattle.calls.proofs.PlanRead.{plan-read}
 
 -- one mass for each threshold, the whole
 start_live : live_count start_record ≡ 1
@@ -112,7 +112,7 @@ module _ (planBytes : List ℕ) (read : Read) (is : read ≡ decoded planBytes) 
   refusal_is = ap (λ (x : Read). x.refusal) (sym is)
 
   pub plan_good : read.refusal ≡ 0 → plan_refusal read.plan ≡ 0
-  plan_good e = ap (λ (x : Read). plan_refusal x.plan) is ∙ read_accepted planBytes (refusal_is ∙ e)
+  plan_good e = (accepted read.plan).1 (rw is (plan-read planBytes (refusal_is ∙ e)))
 
   module _ (lent : List ℕ) where
     pub begin_some : ¬ (read.refusal ≡ 0) → (read.refusal ≡ (called_begin planBytes lent).number) × (lent ≡ (called_begin planBytes lent).bytes)
@@ -127,7 +127,7 @@ module _ (planBytes : List ℕ) (read : Read) (is : read ≡ decoded planBytes) 
 -- a plan that was read into lent tables, as `plan_into` says it
 module _ (planBytes : List ℕ) (r : ℕ) (p : Plan) (is : Into planBytes r p) where
   pub tables_good : r ≡ 0 → plan_refusal p ≡ 0
-  tables_good z = ap plan_refusal (is.1 z) ∙ read_accepted planBytes (sym is.0 ∙ z)
+  tables_good z = ap plan_refusal (is.1 z) ∙ (accepted (decoded planBytes).plan).1 (plan-read planBytes (sym is.0 ∙ z))
 
   module _ (saved : List ℕ) (d : ℕ) (lent : List ℕ) where
     pub draw_some : ¬ (r ≡ 0) → (r ≡ (called_draw planBytes saved d lent).number) × (lent ≡ (called_draw planBytes saved d lent).bytes)

@@ -44,7 +44,7 @@ use Rattle.resumed_test.proofs.Demand.{carried_sound, carried_savable}
 use Rattle.calls.specs.Calls.{answer_number, Called, room_refusal, called_by, own_words, called_begin, called_draw}
 use Rattle.calls.specs.Chain.{Call, kept, unless12, saved_after, last_called, draws_kept, Returns, Returned, Follows, ChainTheorem}
 use Rattle.calls.proofs.CallLaws.{rule_large}
-use Rattle.stored_plan.proofs.RoundTrip.{read_accepted}
+use Rattle.calls.proofs.PlanRead.{plan-read}
 
 -- ---- the number of a refused answer is that of the refusal
 
@@ -98,7 +98,7 @@ module _ (planBytes lent : List ℕ) (read : (decoded planBytes).refusal ≡ 0) 
   p = (decoded planBytes).plan
 
   ok : Accepted p
-  ok = (accepted _).0 (read_accepted planBytes read)
+  ok = plan-read planBytes read
 
   abbrev own : List ℕ
   own = own_words p

@@ -1,4 +1,5 @@
 -- The chain of calls.
+mod PlanRead
 pub mod Chain
 pub mod Room
 -- What the code leaves to do.

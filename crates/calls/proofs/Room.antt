@@ -22,7 +22,7 @@ use Rattle.saved_test.specs.Form.{form_limit, record_offset, saved_size}
 use Rattle.saved_test.specs.Reading.{state_in, words_in, form_fits}
 use Rattle.calls.specs.Calls.{called_begin, called_draw}
 use Rattle.calls.specs.Room.{RoomTheorem}
-use Rattle.stored_plan.proofs.RoundTrip.{read_accepted}
+use Rattle.calls.proofs.PlanRead.{plan-read}
 use Rattle.calls.proofs.CallLaws.{rule_large}
 use Rattle.calls.proofs.BeginLaws.{start_small, begun_is}
 use Rattle.calls.proofs.Taking.{next_small}
@@ -44,7 +44,7 @@ module _ (planBytes lent : List ℕ) (long : form_limit ≤ length lent) (read :
   p = (decoded planBytes).plan
 
   good : plan_refusal p ≡ 0
-  good = read_accepted planBytes read
+  good = (accepted p).1 (plan-read planBytes read)
 
   begins : 100 ≤ (called_begin planBytes lent).number
   unfolding called_begin

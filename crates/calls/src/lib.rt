@@ -1,5 +1,4 @@
-// The calls from C: over saved tests (saved 6, 7), and from one layout of a stored plan to the other (rules 2.5). Bytes and numbers only, and nothing
-// kept between them.
+// The calls from C over saved tests (saved 6, 7): bytes and numbers only, and nothing kept between them.
 mod answers;
 mod beginning;
 mod drawing;
@@ -9,17 +8,15 @@ mod turns;
 ghost use Rattle.std.specs.Prelude.{◌≡◌};
 ghost use Rattle.plan.specs.Plan.{plan_refusal};
 ghost use Rattle.stored_plan.specs.Inner.{plan_from};
-ghost use Rattle.converted_plan.specs.Converting.{to_new, to_old};
 ghost use Rattle.calls.specs.Calls.{drawn_on, called_begin, called_draw};
 
 use answers::answer_number;
 use beginning::begin_on;
 use bucket_test::answering::first_that_fits;
-use converted_plan::{to_new, to_old};
 use drawing::take_in;
 use little::numbers::read_u32;
-use plan::spending::portion_at;
-use plan::{BUCKET_LIMIT, COUNT_LIMIT, POINT_LIMIT};
+use plan::spending::portion_by_delay;
+use plan::{BUCKET_LIMIT, COUNT_LIMIT};
 use saved_test::form::DRAWS_FIELD;
 use saved_test::reading::{form_fits, state_sound_in};
 use stands::has_ended;
@@ -71,17 +68,13 @@ fn draw_on<'a>(
     allowances: &'a [u64; COUNT_LIMIT],
     left: &'a [u32; BUCKET_LIMIT],
     right: &'a [u32; BUCKET_LIMIT],
-    steps: &'a [u32; POINT_LIMIT],
-    shares: &'a [u32; POINT_LIMIT],
     saved: &[u8],
     draw: u32,
     lent: &mut [u8],
 ) -> u32
-    requires { plan_refusal (plan_from head thresholds.now allowances.now left.now right.now steps.now shares.now) ≡ 0 }
-    ensures { (result ≡ (drawn_on 0 (plan_from head thresholds.now allowances.now left.now right.now steps.now shares.now)
-        saved.now draw lent.old).number)
-        × (lent.new ≡ (drawn_on 0 (plan_from head thresholds.now allowances.now left.now right.now steps.now shares.now)
-        saved.now draw lent.old).bytes) }
+    requires { plan_refusal (plan_from head thresholds.now allowances.now left.now right.now) ≡ 0 }
+    ensures { (result ≡ (drawn_on 0 (plan_from head thresholds.now allowances.now left.now right.now) saved.now draw lent.old).number)
+        × (lent.new ≡ (drawn_on 0 (plan_from head thresholds.now allowances.now left.now right.now) saved.now draw lent.old).bytes) }
 {
     let count = head.count as usize;
     if !form_fits(saved, count) {
@@ -96,11 +89,12 @@ fn draw_on<'a>(
     if has_ended(thresholds, left, right, count, buckets, n == horizon, saved) {
         return 10;
     }
-    let portion = portion_at(head.delay, head.points, steps, shares, n);
+    // A stored plan has no points.
+    let portion = portion_by_delay(head.delay, n);
     if !state_sound_in(allowances, count, portion, horizon, saved) {
         return 11;
     }
-    let next = portion_at(head.delay, head.points, steps, shares, n + 1);
+    let next = portion_by_delay(head.delay, n + 1);
     let taken = take_in(thresholds, allowances, count, next, saved, draw, lent);
     if taken.refusal != 0 {
         return taken.refusal;
@@ -127,16 +121,12 @@ pub extern "C" fn vimorake_draw(plan: &[u8], saved: &[u8], draw: u32, lent: &mut
     let mut allowances = [0u64; COUNT_LIMIT];
     let mut left = [0u32; BUCKET_LIMIT];
     let mut right = [0u32; BUCKET_LIMIT];
-    let mut steps = [0u32; POINT_LIMIT];
-    let mut shares = [0u32; POINT_LIMIT];
     let head = plan_into(
         plan,
         &mut thresholds,
         &mut allowances,
         &mut left,
         &mut right,
-        &mut steps,
-        &mut shares,
     );
     if head.refusal != 0 {
         return head.refusal;
@@ -147,28 +137,8 @@ pub extern "C" fn vimorake_draw(plan: &[u8], saved: &[u8], draw: u32, lent: &mut
         &allowances,
         &left,
         &right,
-        &steps,
-        &shares,
         saved,
         draw,
         lent,
     )
-}
-
-// Any stored bytes and any lent bytes may be handed in.
-#[unsafe(no_mangle)]
-pub extern "C" fn vimorake_plan_to_new(stored: &[u8], lent: &mut [u8]) -> u32
-    ensures { (result ≡ (to_new stored.now lent.old).number)
-        × (lent.new ≡ (to_new stored.now lent.old).bytes) }
-{
-    to_new(stored, lent)
-}
-
-// .. and here.
-#[unsafe(no_mangle)]
-pub extern "C" fn vimorake_plan_to_old(stored: &[u8], lent: &mut [u8]) -> u32
-    ensures { (result ≡ (to_old stored.now lent.old).number)
-        × (lent.new ≡ (to_old stored.now lent.old).bytes) }
-{
-    to_old(stored, lent)
 }

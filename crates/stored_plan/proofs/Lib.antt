@@ -1,7 +1,6 @@
 -- The form of a plan, and what reading and writing refuse.
 mod FormLaws
 mod Refusals
-mod ReadingLaws
 -- The round trips.
 mod PlanBack
 mod BytesBack

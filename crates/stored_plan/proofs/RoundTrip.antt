@@ -1,54 +1,40 @@
 -- The statements of specs/RoundTrip hold.
 use mathlib.Core.Path.{◌≡◌, refl, sym, ap, ◌∙◌}
-use mathlib.Core.List.{List, [], ◌++◌, append-nil}
-use mathlib.Core.Logic.{inl, inr, ⊎_elim}
-use Prim.Native.Nat.{ℕ, zero, suc, ◌+◌, ◌≤◌, ◌<◌}
+use mathlib.Core.List.{List}
+use mathlib.Core.Logic.{⊎_elim}
+use Prim.Native.Nat.{ℕ, zero, suc, ◌≤◌, ◌<◌}
 use native.Mathlib.Omega.{arith}
 use lib.ListN.{length, take, drop}
 use lib.Seq.{length-take-le, take_all, take_at, drop_at}
 use Rattle.plan.specs.Places.{over_to}
-use Rattle.plan.specs.Plan.{count_limit, bucket_limit, point_limit, counts_fit, plan_refusal}
+use Rattle.plan.specs.Plan.{count_limit, bucket_limit, point_limit, counts_fit}
 use Rattle.plan.specs.declared.Plan.{Plan}
 use Rattle.plan.specs.SameCounted.{SameCounted}
-use Rattle.plan.proofs.PlaceLaws.{le_or_lt, eq?_fails}
+use Rattle.plan.proofs.PlaceLaws.{le_or_lt}
 use Rattle.plan.proofs.PlaceLists.{join_cong}
 use Rattle.plan.proofs.AcceptedLaws.{accepted}
 use Rattle.plan.proofs.SameCountedLaws.{same_rules}
-use Rattle.stored_plan.specs.Form.{old_layout, new_layout, count_field, buckets_field, bucket_offset, point_offset, form_size, form_limit, plan_fields, point_fields}
-use Rattle.stored_plan.specs.Form.{header, threshold_entries, bucket_entries, point_entries, encoded, size_of, HasForm}
+use Rattle.stored_plan.specs.Form.{count_field, buckets_field, form_size, form_limit, header, threshold_entries, bucket_entries, encoded}
 use Rattle.little.specs.Little.{filled}
-use Rattle.stored_plan.specs.Reading.{count_in, buckets_in, layout_in, points_in, size_in, plan_in, read_refusal, no_plan, decoded_by, decoded}
-use Rattle.stored_plan.specs.declared.Read.{Read}
+use Rattle.stored_plan.specs.Reading.{count_in, buckets_in, plan_in, read_refusal, no_plan, decoded_by, decoded}
 use Rattle.stored_plan.specs.Writing.{write_refusal, written_by, bytes_by, written, bytes_after}
-use Rattle.stored_plan.specs.RoundTrip.{PlanBack, BytesBack, WrittenBack, NewReadBack, OldReadBack, FormLength, cut_at, CutReading}
-use Rattle.stored_plan.specs.RoundTrip.{AcceptedForms, AcceptedWritings, FormWritten, NoneOnRefusal, IgnoredInForm, SamePlan, Zeros}
+use Rattle.stored_plan.specs.RoundTrip.{PlanBack, BytesBack, WrittenBack, ReadBack, FormLength, cut_at, CutReading}
+use Rattle.stored_plan.specs.RoundTrip.{AcceptedForms, AcceptedWritings, FormWritten, NoneOnRefusal, IgnoredInForm, Zeros}
 use Rattle.little.proofs.LittleLaws.{field_cut}
-use Rattle.stored_plan.proofs.FormLaws.{has_layout, layout_range, longest, encoded-length}
-use Rattle.stored_plan.proofs.Refusals.{Readable, told, readable, overlong_form, overlong, decoded_none, decoded_some}
-use Rattle.stored_plan.proofs.Refusals.{writable, roomless, written_none, written_some}
+use Rattle.stored_plan.proofs.FormLaws.{longest, encoded-length}
+use Rattle.stored_plan.proofs.Refusals.{readable, overlong_form, overlong, decoded_none, decoded_some, writable, pointed, written_none, written_some}
 use Rattle.little.proofs.FilledLaws.{filled_past}
-use Rattle.stored_plan.proofs.PlanBack.{same, counted_in, plan_back, form-read, size_here}
+use Rattle.stored_plan.proofs.PlanBack.{same, plan_back, form-read}
 use Rattle.stored_plan.proofs.BytesBack.{bytes_back}
 
 -- the refusal that is handed back is that of the reading, of the writing
-pub read_refusal_lem : (bytes : List ℕ) → (decoded bytes).refusal ≡ read_refusal bytes
+read_refusal_lem : (bytes : List ℕ) → (decoded bytes).refusal ≡ read_refusal bytes
 unfolding decoded
 read_refusal_lem bytes = go (read_refusal bytes)
   where
     go : (r : ℕ) → (decoded_by r bytes).refusal ≡ r
     go zero = refl
     go (suc r) = refl
-
--- a reading that is not refused hands back the plan that the bytes hold, which is accepted
-module _ (bytes : List ℕ) (e : (decoded bytes).refusal ≡ 0) where
-  none : read_refusal bytes ≡ 0
-  none = sym (read_refusal_lem bytes) ∙ e
-
-  pub read-plan : (decoded bytes).plan ≡ plan_in bytes
-  read-plan = ap (λ (r : Read). r.plan) (sym (decoded_none bytes none))
-
-  pub read_accepted : plan_refusal (decoded bytes).plan ≡ 0
-  read_accepted = ap plan_refusal read-plan ∙ ((readable bytes).0 none).accepted
 
 write_refusal_lem : (p : Plan) (bytes : List ℕ) → (written p bytes).refusal ≡ write_refusal p bytes
 unfolding written
@@ -58,34 +44,21 @@ write_refusal_lem p bytes = go (write_refusal p bytes)
     go zero = refl
     go (suc r) = refl
 
--- the form of an accepted plan, alone, is read as the plan with zeros past its counts
-module _ (layout : ℕ) (p : Plan) (e : plan_refusal p ≡ 0) (has : HasForm layout p) where
-  alone : encoded layout p ++ [] ≡ encoded layout p
-  alone = append-nil (encoded layout p)
-
-  pub accepted_read : read_refusal (encoded layout p) ≡ 0
-  accepted_read = rw alone at (form-read layout p ((accepted p).0 e) has [] refl)
-
-  back : SamePlan p (plan_in (encoded layout p))
-  back =
-      let a = (accepted p).0 e in
-      let held = rw alone at (plan_back layout p a has []) in
-      rw held (same p a.count_range.1 a.buckets_range.1 a.points_sound.few)
-
 pub plan_back_holds : PlanBack
-plan_back_holds layout p e has = rw (← decoded_none (encoded layout p) (accepted_read layout p e has)) (refl, back layout p e has)
+plan_back_holds p e none =
+    let a = (accepted p).0 e in
+    let d = decoded_none (encoded p) (form-read p a none) in
+    rw (← d, plan_back p a none) (refl, same p a.count_range.1 a.buckets_range.1 a.points_sound.few)
 
 pub bytes_back_holds : BytesBack
-bytes_back_holds bytes each e = rw (read-plan bytes e) (bytes_back bytes each (none bytes e))
+bytes_back_holds bytes each e =
+    let z = sym (read_refusal_lem bytes) ∙ e in
+    rw (← decoded_none bytes z) (bytes_back bytes each z)
 
 pub form_length_holds : FormLength
-form_length_holds layout p e has =
+form_length_holds p e =
     let a = (accepted p).0 e in
-    let is = has_layout layout p has in (
-      encoded-length layout p is,
-      longest layout p.count p.buckets p.points (layout_range layout is).1 (a.count_range, a.buckets_range) a.points_sound.few,
-      size_here layout p a has,
-    )
+    (encoded-length p, rw (encoded-length p) (longest p.count p.buckets (a.count_range, a.buckets_range)))
 
 -- bytes that are cut behind the longest form
 module _ (n : ℕ) (h : form_limit < n) (bytes : List ℕ) (l : n ≤ length bytes) where
@@ -103,88 +76,49 @@ pub cut-reading-holds : CutReading
 cut-reading-holds bytes =
     ⊎_elim (λ h. ap decoded (take_all cut_at bytes h)) (λ h. cut_same cut_at (omega arith) bytes (omega arith)) (le_or_lt (length bytes) cut_at)
 
--- a plan that was read has a form in the layout that its bytes tell
-told_form : (bytes : List ℕ) → Readable bytes → HasForm (layout_in bytes) (plan_in bytes)
-unfolding plan_in points_in
-told_form bytes s = ⊎_elim (λ new. inl new) (λ old. inr (old, rw (old, eq?_fails old_layout new_layout (λ z. omega arith)))) (told bytes s.offsets)
-
-pub read-form : (bytes : List ℕ) → (decoded bytes).refusal ≡ 0 → HasForm (layout_in bytes) (decoded bytes).plan
-read-form bytes e = rw (read-plan bytes e) (told_form bytes ((readable bytes).0 (none bytes e)))
-
--- its form in any layout that it has one in is read as the same plan
-pub form_held : (layout : ℕ) (bytes : List ℕ) → (decoded bytes).refusal ≡ 0 → HasForm layout (decoded bytes).plan
-    → decoded (encoded layout (decoded bytes).plan) ≡ decoded bytes
-form_held layout bytes e has =
-    let s = (readable bytes).0 (none bytes e) in
-    let p = plan_in bytes in
-    let has' : HasForm layout p = rw (read-plan bytes e) at has in
-    let a = (accepted p).0 s.accepted in
-    let held = (rw (alone layout p s.accepted has') at (plan_back layout p a has' [])) ∙ counted_in bytes s.counts.0.1 s.counts.1.1 s.few in
-    ap (λ (q : Plan). decoded (encoded layout q)) (read-plan bytes e)
-    ∙ sym (decoded_none (encoded layout p) (accepted_read layout p s.accepted has'))
-    ∙ ap (λ (q : Plan). record { refusal = 0; plan = q }) held ∙ decoded_none bytes (none bytes e)
+no_points : (bytes : List ℕ) → (plan_in bytes).points ≡ 0
+unfolding plan_in
+no_points bytes = refl
 
 pub accepted_forms_hold : AcceptedForms
+unfolding decoded no_plan
 accepted_forms_hold bytes each = (
-  λ e. let z = sym (read_refusal_lem bytes) ∙ e in
-      let s = (readable bytes).0 z in
-      let whole = sym (bytes_back bytes each z) in (
-        plan_in bytes,
-        s.accepted,
-        ⊎_elim
-            (λ new. inl (whole ∙ ap (λ (l : ℕ). encoded l (plan_in bytes)) new))
-            (λ old. inr (old.1, whole ∙ ap (λ (l : ℕ). encoded l (plan_in bytes)) old.0))
-            (told_form bytes s),
-      ),
-  λ s. read_refusal_lem bytes
-      ∙ ⊎_elim
-      (λ new. rw new (accepted_read new_layout s.0 s.1 (inl refl)))
-      (λ old. rw old.1 (accepted_read old_layout s.0 s.1 (inr (refl, old.0))))
-      s.2,
+  (
+    λ e. let z = sym (read_refusal_lem bytes) ∙ e in (plan_in bytes, ((readable bytes).0 z).accepted, no_points bytes, sym (bytes_back bytes each z)),
+    λ s. read_refusal_lem bytes ∙ rw s.3 (form-read s.0 ((accepted s.0).0 s.1) s.2),
+  ),
+  decoded_points (read_refusal bytes),
 )
+  where
+    decoded_points : (r : ℕ) → (decoded_by r bytes).plan.points ≡ 0
+    decoded_points zero = no_points bytes
+    decoded_points (suc r) = refl
 
 pub accepted_writings_hold : AcceptedWritings
-accepted_writings_hold p lent =
-    let r = roomless p lent in
-    rw (write_refusal_lem p lent, encoded-length new_layout p (inl refl))
-    (writable p lent, (λ e. let h = r.0 e in (h.0, ⊎_elim (λ fits. absurd (h.1 fits)) (λ short. short) (le_or_lt (size_of new_layout p) (length lent))), λ h. r.1 (h.0, λ fits. omega (arith, h.1, fits))))
+accepted_writings_hold p bytes =
+    let w = writable p bytes in
+    rw (write_refusal_lem p bytes, encoded-length p)
+    ((λ e. let h = w.0 e in (h.0, h.1.0, h.1.1), λ h. w.1 (h.0, (h.1, h.2))), pointed p bytes)
 
 pub form_written_holds : FormWritten
-form_written_holds p lent e =
-    let w = written_none p lent (sym (write_refusal_lem p lent) ∙ e) in
-    let n = encoded-length new_layout p (inl refl) in
-    let rest = drop (size_of new_layout p) lent in
-    rw (← w.0, ← w.1) (take_at (encoded new_layout p) rest _ n, drop_at (encoded new_layout p) rest _ n)
+form_written_holds p bytes e =
+    let w = written_none p bytes (sym (write_refusal_lem p bytes) ∙ e) in
+    let n = encoded-length p in
+    let rest = drop (form_size p.count p.buckets) bytes in
+    rw (← w.0, ← w.1) (take_at (encoded p) rest _ n, drop_at (encoded p) rest _ n)
 
 pub written_back_holds : WrittenBack
-written_back_holds p lent e =
-    let h = (accepted_writings_hold p lent).0.0 e in
-    rw (form_written_holds p lent e).0 (plan_back_holds new_layout p h.0 (inl refl))
+written_back_holds p bytes e =
+    let h = (accepted_writings_hold p bytes).0.0 e in
+    rw (form_written_holds p bytes e).0 (plan_back_holds p h.0 h.1)
 
--- a plan that was read, written where the new form of so many bytes fits
-module _ (bytes lent : List ℕ) (e : (decoded bytes).refusal ≡ 0) where
-  rewritten : (n : ℕ) → size_of new_layout (plan_in bytes) ≡ n → n ≤ length lent
-      → (written (plan_in bytes) lent ≡ record { refusal = 0; size = n }) × (bytes_after (plan_in bytes) lent ≡ encoded new_layout (plan_in bytes) ++ drop n lent)
-  rewritten n size long =
-      let w = written_none (plan_in bytes) lent ((writable (plan_in bytes) lent).1 (((readable bytes).0 (none bytes e)).accepted, omega arith)) in
-      rw (← size) (sym w.0, sym w.1)
-
-pub new_read_back_holds : NewReadBack
-new_read_back_holds bytes lent each e new long =
-    let z = none bytes e in
-    let form : encoded new_layout (plan_in bytes) ≡ bytes = ap (λ (l : ℕ). encoded l (plan_in bytes)) (sym new) ∙ bytes_back bytes each z in
-    let size = sym (encoded-length new_layout (plan_in bytes) (inl refl)) ∙ ap length form in
-    let w = rewritten bytes lent e (length bytes) size long in
-    rw (← decoded_none bytes z) (w.0, rw form at w.1)
-
-pub old_read_back_holds : OldReadBack
-unfolding form_size point_offset bucket_offset
-old_read_back_holds bytes lent each e old long =
-    let z = none bytes e in
-    let form : encoded old_layout (plan_in bytes) ≡ bytes = ap (λ (l : ℕ). encoded l (plan_in bytes)) (sym old) ∙ bytes_back bytes each z in
-    let size : size_of new_layout (plan_in bytes) ≡ length bytes + 4 = omega (arith, sym (encoded-length old_layout (plan_in bytes) (inr refl)) ∙ ap length form) in
-    let w = rewritten bytes lent e (length bytes + 4) size long in
-    rw (← decoded_none bytes z) (sym form, w.0, w.1)
+pub read_back_holds : ReadBack
+read_back_holds bytes lent each e long =
+    let z = sym (read_refusal_lem bytes) ∙ e in
+    let form = bytes_back bytes each z in
+    let size : form_size (plan_in bytes).count (plan_in bytes).buckets ≡ length bytes = sym (encoded-length (plan_in bytes)) ∙ ap length form in
+    let w = written_none (plan_in bytes) lent ((writable (plan_in bytes) lent).1 (((readable bytes).0 z).accepted, (no_points bytes, rw size long))) in
+    rw (← decoded_none bytes z) (rw size at (sym w.0), rw (form, size) at (sym w.1))
 
 zeros : Zeros no_plan
 unfolding no_plan filled over_to
@@ -211,28 +145,21 @@ module _ (p q : Plan) (c : SameCounted p q) where
   unfolding bucket_entries
   buckets_same = rw c.counts.1 (join_cong p.buckets _ _ (λ j l. rw ((c.ends j l).0, (c.ends j l).1)))
 
-  points_same : point_entries q ≡ point_entries p
-  unfolding point_entries
-  points_same = rw c.counts.2 (join_cong p.points _ _ (λ j l. rw ((c.points j l).0, (c.points j l).1)))
+  form_same : encoded q ≡ encoded p
+  unfolding encoded header
+  form_same = rw (thresholds_same, buckets_same, c.counts.0, c.counts.1, c.times.0, c.times.1)
 
-  form_same : (layout : ℕ) → encoded layout q ≡ encoded layout p
-  unfolding encoded header plan_fields point_fields
-  form_same layout = rw (thresholds_same, buckets_same, points_same, c.counts.0, c.counts.1, c.counts.2, c.times.0, c.times.1)
-
-  size_same : (layout : ℕ) → size_of layout q ≡ size_of layout p
-  size_same layout = rw (c.counts.0, c.counts.1, c.counts.2)
-
-  module _ (lent : List ℕ) where
-    refusal_same : write_refusal q lent ≡ write_refusal p lent
+  module _ (bytes : List ℕ) where
+    refusal_same : write_refusal q bytes ≡ write_refusal p bytes
     unfolding write_refusal
-    refusal_same = rw ((same_rules p q c).refusal_same, size_same new_layout)
+    refusal_same = rw ((same_rules p q c).refusal_same, c.counts.0, c.counts.1, c.counts.2)
 
-    written_same : (r : ℕ) → (written_by r q ≡ written_by r p) × (bytes_by r new_layout q lent ≡ bytes_by r new_layout p lent)
-    written_same zero = rw (form_same new_layout, size_same new_layout) (refl, refl)
+    written_same : (r : ℕ) → (written_by r q ≡ written_by r p) × (bytes_by r q bytes ≡ bytes_by r p bytes)
+    written_same zero = rw (form_same, c.counts.0, c.counts.1) (refl, refl)
     written_same (suc r) = (refl, refl)
 
 pub ignored_in_form : IgnoredInForm
 unfolding written bytes_after
-ignored_in_form p q c lent =
-    let w = written_same p q c lent (write_refusal p lent) in
-    rw (refusal_same p q c lent) (form_same p q c, w.0, w.1)
+ignored_in_form p q c bytes =
+    let w = written_same p q c bytes (write_refusal p bytes) in
+    rw (refusal_same p q c bytes) (form_same p q c, w.0, w.1)

@@ -1,11 +1,11 @@
 -- What is proved of plans and their forms, as statements (rules 2.4). The proofs are in proofs/RoundTrip.
-use Rattle.std.specs.Prelude.{List, ◌++◌, ◌↔◌, ◌⊎◌, ◌≡◌, ℕ, ◌+◌, ◌≤◌, ◌<◌, length, take, drop}
+use Rattle.std.specs.Prelude.{List, ◌++◌, ◌↔◌, ◌≡◌, ℕ, ◌+◌, ◌≤◌, length, take, drop}
 use Rattle.plan.specs.Plan.{count_limit, bucket_limit, point_limit, threshold_at, allowance_at, left_at, right_at, step_at, share_at, plan_refusal}
 use Rattle.plan.specs.SameCounted.{SameCounted}
 use Rattle.plan.specs.declared.Plan.{Plan}
 use Rattle.little.specs.Little.{Bytes}
-use Rattle.stored_plan.specs.Form.{old_layout, new_layout, form_limit, encoded, size_of, HasForm}
-use Rattle.stored_plan.specs.Reading.{layout_in, size_in, decoded}
+use Rattle.stored_plan.specs.Form.{form_size, form_limit, encoded}
+use Rattle.stored_plan.specs.Reading.{decoded}
 use Rattle.stored_plan.specs.Writing.{written, bytes_after}
 
 -- q is p in its numbers and each counted place, and has zeros elsewhere
@@ -26,38 +26,28 @@ pub record Zeros (p : Plan) : Type 0 where
   pub ends : (j : ℕ) → (left_at p j ≡ 0) × (right_at p j ≡ 0)
   pub points : (j : ℕ) → (step_at p j ≡ 0) × (share_at p j ≡ 0)
 
--- the form of an accepted plan is read, in each layout that the plan has a form in, and is the plan
+-- the form of an accepted plan without points is read, and is the plan
 abbrev pub PlanBack : Type 0
-PlanBack = (layout : ℕ) (p : Plan) → plan_refusal p ≡ 0 → HasForm layout p
-    → ((decoded (encoded layout p)).refusal ≡ 0) × SamePlan p (decoded (encoded layout p)).plan
+PlanBack = (p : Plan) → plan_refusal p ≡ 0 → p.points ≡ 0 → ((decoded (encoded p)).refusal ≡ 0) × SamePlan p (decoded (encoded p)).plan
 
--- accepted bytes are the form of the plan that is read, in the layout that they tell
+-- accepted bytes, read and written, are the same bytes
 abbrev pub BytesBack : Type 0
-BytesBack = (bytes : List ℕ) → Bytes bytes → (decoded bytes).refusal ≡ 0 → encoded (layout_in bytes) (decoded bytes).plan ≡ bytes
+BytesBack = (bytes : List ℕ) → Bytes bytes → (decoded bytes).refusal ≡ 0 → encoded (decoded bytes).plan ≡ bytes
 
 -- both of what the entries hand back: what was written into lent bytes, any that the form fits, is read as the plan
 abbrev pub WrittenBack : Type 0
-WrittenBack = (p : Plan) (lent : List ℕ) → (written p lent).refusal ≡ 0
-    → let stored = take (written p lent).size (bytes_after p lent) in ((decoded stored).refusal ≡ 0) × SamePlan p (decoded stored).plan
+WrittenBack = (p : Plan) (bytes : List ℕ) → (written p bytes).refusal ≡ 0
+    → let stored = take (written p bytes).size (bytes_after p bytes) in ((decoded stored).refusal ≡ 0) × SamePlan p (decoded stored).plan
 
--- bytes of the new layout, read, then written into lent bytes, any that are long enough, stand at their start, and the rest is as it was
-abbrev pub NewReadBack : Type 0
-NewReadBack = (bytes lent : List ℕ) → Bytes bytes → (decoded bytes).refusal ≡ 0 → layout_in bytes ≡ new_layout → length bytes ≤ length lent
+-- accepted bytes, read, then written into lent bytes, any that are long enough, stand at their start, and the rest is as it was
+abbrev pub ReadBack : Type 0
+ReadBack = (bytes lent : List ℕ) → Bytes bytes → (decoded bytes).refusal ≡ 0 → length bytes ≤ length lent
     → let p = (decoded bytes).plan in
     (written p lent ≡ record { refusal = 0; size = length bytes }) × (bytes_after p lent ≡ bytes ++ drop (length bytes) lent)
 
--- those of the old layout come out as the new form of the same plan, 4 bytes longer
-abbrev pub OldReadBack : Type 0
-OldReadBack = (bytes lent : List ℕ) → Bytes bytes → (decoded bytes).refusal ≡ 0 → layout_in bytes ≡ old_layout → length bytes + 4 ≤ length lent
-    → let p = (decoded bytes).plan in
-    (bytes ≡ encoded old_layout p)
-    × (written p lent ≡ record { refusal = 0; size = length bytes + 4 })
-    × (bytes_after p lent ≡ encoded new_layout p ++ drop (length bytes + 4) lent)
-
--- an accepted plan's form has the length that its counts say, at most the longest, and its header tells it, whatever bytes stand behind
+-- an accepted plan's form has the length that its counts say, at most the longest
 abbrev pub FormLength : Type 0
-FormLength = (layout : ℕ) (p : Plan) → plan_refusal p ≡ 0 → HasForm layout p
-    → (length (encoded layout p) ≡ size_of layout p) × (size_of layout p ≤ form_limit) × ((rest : List ℕ) → size_in (encoded layout p ++ rest) ≡ size_of layout p)
+FormLength = (p : Plan) → plan_refusal p ≡ 0 → (length (encoded p) ≡ form_size p.count p.buckets) × (length (encoded p) ≤ form_limit)
 
 -- one byte more than the longest form has
 abbrev pub cut_at : ℕ
@@ -67,30 +57,30 @@ cut_at = form_limit + 1
 abbrev pub CutReading : Type 0
 CutReading = (bytes : List ℕ) → decoded (take cut_at bytes) ≡ decoded bytes
 
--- reading accepts exactly the new forms of accepted plans and the old forms of accepted plans without points
+-- reading accepts exactly the forms of accepted plans without points, and the plan has none
 abbrev pub AcceptedForms : Type 0
 AcceptedForms = (bytes : List ℕ) → Bytes bytes
-    → ((decoded bytes).refusal ≡ 0)
-    ↔ ((p : Plan) × (plan_refusal p ≡ 0) × ((bytes ≡ encoded new_layout p) ⊎ ((p.points ≡ 0) × (bytes ≡ encoded old_layout p))))
+    → (((decoded bytes).refusal ≡ 0) ↔ ((p : Plan) × (plan_refusal p ≡ 0) × (p.points ≡ 0) × (bytes ≡ encoded p))) × ((decoded bytes).plan.points ≡ 0)
 
--- writing accepts exactly the accepted plans whose new form is no longer than the lent bytes; 12 refuses exactly the accepted plans whose form is
+-- writing accepts exactly the accepted plans without points whose form is no longer than the lent bytes; 17 refuses exactly the accepted plans with
+-- points, however many bytes are lent
 abbrev pub AcceptedWritings : Type 0
-AcceptedWritings = (p : Plan) (lent : List ℕ)
-    → (((written p lent).refusal ≡ 0) ↔ ((plan_refusal p ≡ 0) × (length (encoded new_layout p) ≤ length lent)))
-    × (((written p lent).refusal ≡ 12) ↔ ((plan_refusal p ≡ 0) × (length lent < length (encoded new_layout p))))
+AcceptedWritings = (p : Plan) (bytes : List ℕ)
+    → (((written p bytes).refusal ≡ 0) ↔ ((plan_refusal p ≡ 0) × (p.points ≡ 0) × (length (encoded p) ≤ length bytes)))
+    × (((written p bytes).refusal ≡ 17) ↔ ((plan_refusal p ≡ 0) × (¬ (p.points ≡ 0))))
 
 -- of lent bytes, so many as are handed back are the form, and the others keep their contents
 abbrev pub FormWritten : Type 0
-FormWritten = (p : Plan) (lent : List ℕ) → (written p lent).refusal ≡ 0
-    → (take (written p lent).size (bytes_after p lent) ≡ encoded new_layout p)
-    × (drop (written p lent).size (bytes_after p lent) ≡ drop (written p lent).size lent)
+FormWritten = (p : Plan) (bytes : List ℕ) → (written p bytes).refusal ≡ 0
+    → (take (written p bytes).size (bytes_after p bytes) ≡ encoded p)
+    × (drop (written p bytes).size (bytes_after p bytes) ≡ drop (written p bytes).size bytes)
 
 -- a refused reading hands back no plan, and a refused writing leaves every byte as it was
 abbrev pub NoneOnRefusal : Type 0
 NoneOnRefusal = ((bytes : List ℕ) → ¬ ((decoded bytes).refusal ≡ 0) → Zeros (decoded bytes).plan)
-    × ((p : Plan) (lent : List ℕ) → ¬ ((written p lent).refusal ≡ 0) → ((written p lent).size ≡ 0) × (bytes_after p lent ≡ lent))
+    × ((p : Plan) (bytes : List ℕ) → ¬ ((written p bytes).refusal ≡ 0) → ((written p bytes).size ≡ 0) × (bytes_after p bytes ≡ bytes))
 
--- places past a count are ignored in the forms and in writing too
+-- places past a count are ignored in writing too
 abbrev pub IgnoredInForm : Type 0
-IgnoredInForm = (p q : Plan) → SameCounted p q → (lent : List ℕ)
-    → ((layout : ℕ) → encoded layout q ≡ encoded layout p) × (written q lent ≡ written p lent) × (bytes_after q lent ≡ bytes_after p lent)
+IgnoredInForm = (p q : Plan) → SameCounted p q → (bytes : List ℕ)
+    → (encoded q ≡ encoded p) × (written q bytes ≡ written p bytes) × (bytes_after q bytes ≡ bytes_after p bytes)

@@ -1,17 +1,15 @@
 // The stored form of a plan (rules 2).
-pub mod form;
-pub mod order;
+mod form;
+mod order;
 pub mod reading;
 pub mod writing;
 
 use plan::Plan;
 
-// A layout is the size of its header, in bytes: the old one, kept for reading, and the new one. The length of the longest form (rules 2.1).
-pub const OLD_LAYOUT: u32 = 16;
+// The length of the header, and that of the longest form, in bytes (rules 2.1).
+pub const HEADER_SIZE: usize = 16;
 
-pub const NEW_LAYOUT: u32 = 20;
-
-pub const FORM_LIMIT: usize = 332;
+pub const FORM_LIMIT: usize = 264;
 
 // A plan that was read, or the number of the refusal, 0 for none; a refused reading hands back zeros in every number of the plan.
 #[derive(Drop)]
@@ -28,7 +26,6 @@ pub struct Head {
     pub buckets: u32,
     pub delay: u32,
     pub horizon: u32,
-    pub points: u32,
 }
 
 // The number of bytes written, or the number of the refusal, 0 for none.

@@ -51,7 +51,6 @@ fn after_the_end(d: u8) {
 fn main() {
     let mut words = [0u64; 7690];
     trial(b"f.plan", b"five", &mut words);
-    trial(b"f_new.plan", b"five", &mut words);
     trial(b"f.plan", b"zeros172", &mut words);
     trial(b"f.plan", b"zeros173", &mut words);
     trial(b"n172.plan", b"zeros172", &mut words);
@@ -67,9 +66,6 @@ fn main() {
     trial(b"f.plan", b"newlines", &mut words);
     trial(b"f.plan", b"after", &mut words);
     trial(b"f.plan", b"far", &mut words);
-    trial(b"points.plan", b"one_zero", &mut words);
-    trial(b"nine_points.plan", b"one_zero", &mut words);
-    trial(b"longest_old.plan", b"none", &mut words);
     trial(b"longest.plan", b"none", &mut words);
     trial(b"overlong.plan", b"none", &mut words);
     after_the_end(2);

@@ -30,7 +30,7 @@ use Rattle.calls.proofs.draw_on.Tie as tie
 
 module _ (s : tie.Start) where
   abbrev p : Plan
-  p = let a = s.args in plan_from a.head a.thresholds.now a.allowances.now a.left.now a.right.now a.steps.now a.shares.now
+  p = let a = s.args in plan_from a.head a.thresholds.now a.allowances.now a.left.now a.right.now
 
   good : plan_refusal p ≡ 0
   good = s.pre
@@ -110,14 +110,19 @@ returns-3 c =
     let s = of2 e in
     hands_10 (p s) _ _ _ (good s) (form e.before) e.if2.false (sym (ended c.before) ∙ c.if3.true)
 
-portion-at-requires : tie.Need-portion-at-requires
-portion-at-requires c κs = (ok (of3 c)).points_sound.few
+-- without points the portion is by the delay
+by_delay : (s : tie.Start) (m : ℕ) → portion_of (p s) m ≡ record { numerator = m; denominator = m + (p s).delay }
+unfolding portion_of eq?
+by_delay s m = refl
 
-portion : (c : tie.After-portion-at)
-    → let s = of3 c.before in portion_of (p s) (field 4 draws_field s.args.saved.now) ≡ c.portion-at.result
+portion-by-delay-requires : tie.Need-portion-by-delay-requires
+portion-by-delay-requires c κs = search rules
+
+portion : (c : tie.After-portion-by-delay)
+    → let s = of3 c.before in portion_of (p s) (field 4 draws_field s.args.saved.now) ≡ c.portion-by-delay.result
 portion c =
     let s = of3 c.before in
-    ap (portion_of (p s)) (sym c.before.before.before.read_u32.ensures.0) ∙ sym (c.portion-at.ensures (p s) refl refl refl refl)
+    ap (portion_of (p s)) (sym c.before.before.before.read_u32.ensures.0) ∙ by_delay s _ ∙ sym c.portion-by-delay.ensures
 
 state-sound-in-requires : tie.Need-state-sound-in-requires
 state-sound-in-requires c κs =
@@ -156,17 +161,17 @@ module _ (c : tie.Else4) where
   unfolding state_in
   early-yet = in-time (p (of4 c)) _ (of4 c).args.draw (good (of4 c)) (form e.before) e.if2.left goes_on is-sound
 
-add-portion-at : tie.Need-overflow-add-portion-at
+add-portion-by-delay : tie.Need-overflow-add-portion-by-delay
 unfolding horizon_limit
-add-portion-at c = record { fits = omega (arith, early-yet c, n_is c) }
+add-portion-by-delay c = record { fits = omega (arith, early-yet c, n_is c) }
 
-portion-at-requires-2 : tie.Need-portion-at-requires-2
-portion-at-requires-2 c κs = (ok (of4 c)).points_sound.few
+portion-by-delay-requires-2 : tie.Need-portion-by-delay-requires-2
+portion-by-delay-requires-2 c κs = search rules
 
 abbrev ready : (c : tie.After-take-in-arg)
     → let s = of4 c.before.before in
     let a = s.args in
-    Ready a.thresholds.now a.allowances.now (p s).count c.before.portion-at2.result a.saved.now a.draw
+    Ready a.thresholds.now a.allowances.now (p s).count c.before.portion-by-delay2.result a.saved.now a.draw
 ready c =
     let f = c.before.before in
     let s = of4 f in
@@ -175,7 +180,7 @@ ready c =
       thresholds_are = refl;
       allowances_are = refl;
       count_is = refl;
-      portion_is = ap (portion_of (p s)) (sym (add-one _ ∙ ap suc (n_is f))) ∙ sym (c.before.portion-at2.ensures (p s) refl refl refl refl);
+      portion_is = ap (portion_of (p s)) (sym (add-one _ ∙ ap suc (n_is f))) ∙ by_delay s _ ∙ sym c.before.portion-by-delay2.ensures;
       judged = good s;
       form = form (e f).before;
       bit = (e f).if2.false;
@@ -248,11 +253,11 @@ draw-on-spec =
     read-u32-requires
     has-ended-requires
     returns-3
-    portion-at-requires
+    portion-by-delay-requires
     state-sound-in-requires
     returns-4
-    add-portion-at
-    portion-at-requires-2
+    add-portion-by-delay
+    portion-by-delay-requires-2
     take-in-requires
     same_length
     returns-5

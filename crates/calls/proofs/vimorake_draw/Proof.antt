@@ -9,12 +9,12 @@ plan-into-requires c κs = search rules
 
 returns : tie.Need-returns
 returns c =
-    let a = c.before.before.before.before.before.before.before.before.before.before.before.before.args in
+    let a = c.before.before.before.before.before.before.before.before.before.before.args in
     draw_some a.plan.now _ _ c.before.before.plan-into.ensures a.saved.now a.draw a.lent.now c.if1.true
 
 draw-on-requires : tie.Need-draw-on-requires
 draw-on-requires c κs =
-    let e = c.before.before.before.before.before.before.before in
+    let e = c.before.before.before.before.before in
     tables_good _ _ _ e.before.before.plan-into.ensures e.if1.false
 
 same_length : tie.Need-same-length
@@ -22,8 +22,8 @@ same_length c = search rules
 
 returns-2 : tie.Need-returns-2
 returns-2 c =
-    let e = c.before.before.before.before.before.before.before.before.before.before in
-    let a = e.before.before.before.before.before.before.before.before.before.before.before.before.args in
+    let e = c.before.before.before.before.before.before.before.before in
+    let a = e.before.before.before.before.before.before.before.before.before.before.args in
     draw_none a.plan.now _ _ e.before.before.plan-into.ensures a.saved.now a.draw a.lent.now e.if1.false _ _
     c.before.before.draw-on.ensures
 

@@ -2,9 +2,7 @@
 use mathlib.Core.Path.{sym, ◌∙◌}
 use native.Mathlib.Omega.{arith}
 use borrow.Author.Rules.{rules}
-use Rattle.stored_plan.specs.Reading.{layout_in}
-use Rattle.stored_plan.proofs.FormLaws.{layout_range}
-use Rattle.stored_plan.proofs.Refusals.{into_some, into-plan, short, form-refused, past_form, form_says, offsets_say, told}
+use Rattle.stored_plan.proofs.Refusals.{into_some, into-plan, short, form-refused, past_form, form_says}
 use Rattle.stored_plan.proofs.reading.plan_into.Statement.{statement}
 use Rattle.stored_plan.proofs.reading.plan_into.Tie as tie
 
@@ -28,15 +26,14 @@ returns-2 c =
 
 plan-in-requires : tie.Need-plan-in-requires
 plan-in-requires c κs =
-    let e = c.before.before.before.before.before.before in
+    let e = c.before.before.before.before in
     let a = e.before.before.before.before in
     let s = (form_says a.args.bytes.now).0 (sym e.before.form-refusal.ensures ∙ e.if2.false) in
-    let o = (offsets_say a.args.bytes.now).0 s.1.0 in
-    (((layout_range (layout_in a.args.bytes.now) (told a.args.bytes.now o)).0, s.0.0.1, s.0.1.1, s.1.1.0, s.1.1.1), a.requires)
+    ((s.0.0.1, s.0.1.1, s.1.1), a.requires)
 
 returns-3 : tie.Need-returns-3
 returns-3 c =
-    let e = c.before.before.before.before.before.before.before in
+    let e = c.before.before.before.before.before in
     let r = e.before.form-refusal in
     let form = past_form _ r.result r.ensures e.before.before.if1.false e.if2.false in
     into-plan _ _ _ form c.plan-in.ensures.0 c.plan-in.ensures.1

@@ -6,7 +6,7 @@ use Rattle.stored_plan.proofs.reading.read_plan.Statement.{statement}
 use Rattle.stored_plan.proofs.reading.read_plan.Tie as tie
 
 plan-into-requires : tie.Need-plan-into-requires
-plan-into-requires c κs = (refl, refl, refl, refl, refl, refl)
+plan-into-requires c κs = (refl, refl, refl, refl)
 
 refused-requires : tie.Need-refused-requires
 refused-requires c κs = search rules

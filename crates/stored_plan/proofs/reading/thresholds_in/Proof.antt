@@ -3,18 +3,18 @@ use Prim.Native.Nat.{◌-◌}
 use native.Mathlib.Omega.{arith}
 use borrow.Author.Rules.{rules}
 use Rattle.little.proofs.FilledLaws.{BothTo, both_none, both_next, both_all}
-use Rattle.stored_plan.specs.Form.{threshold_entry_size, allowance_field}
+use Rattle.stored_plan.specs.Form.{header_size, threshold_entry_size, allowance_field}
 use Rattle.stored_plan.proofs.reading.thresholds_in.Statement.{statement}
 use Rattle.stored_plan.proofs.reading.thresholds_in.Tie as tie
 
 abbrev invariant-loop : tie.invariant-loop
-invariant-loop bytes from count thresholds₀ allowances₀ i₀ thresholds allowances i = BothTo count 4 8 from allowance_field threshold_entry_size bytes thresholds₀ allowances₀ i thresholds allowances
+invariant-loop bytes count thresholds₀ allowances₀ i₀ thresholds allowances i = BothTo count 4 8 header_size allowance_field threshold_entry_size bytes thresholds₀ allowances₀ i thresholds allowances
 
 abbrev decreases-loop : tie.decreases-loop
-decreases-loop bytes from count thresholds₀ allowances₀ i₀ thresholds allowances i = count - i
+decreases-loop bytes count thresholds₀ allowances₀ i₀ thresholds allowances i = count - i
 
 loop-holds : tie.Need-loop-init invariant-loop decreases-loop
-loop-holds c = both_none _ 4 8 _ allowance_field threshold_entry_size _ _ _
+loop-holds c = both_none _ 4 8 header_size allowance_field threshold_entry_size _ _ _
 
 mul_at : tie.Need-overflow-mul-at invariant-loop decreases-loop
 mul_at c = search rules
@@ -53,10 +53,10 @@ loop-again : tie.Need-loop-preserved invariant-loop decreases-loop
 loop-again c =
     let l = c.before.before.before.loop in
     let more = c.before.before.loop-test.true in
-    both_next _ 4 8 _ allowance_field threshold_entry_size _ _ _ l.i l.thresholds l.allowances l.invariant more _ _ c.before.read_u32.ensures.0 c.read_u64.ensures
+    both_next _ 4 8 header_size allowance_field threshold_entry_size _ _ _ l.i l.thresholds l.allowances l.invariant more _ _ c.before.read_u32.ensures.0 c.read_u64.ensures
 
 returns : tie.Need-returns invariant-loop decreases-loop
-returns c = let l = c.before.loop in both_all _ 4 8 _ allowance_field threshold_entry_size _ _ _ l.i l.thresholds l.allowances l.invariant (omega arith)
+returns c = let l = c.before.loop in both_all _ 4 8 header_size allowance_field threshold_entry_size _ _ _ l.i l.thresholds l.allowances l.invariant (omega arith)
 
 pub thresholds-in-spec : {M : Type 1} → statement M
 thresholds-in-spec =

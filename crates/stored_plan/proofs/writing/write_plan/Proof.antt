@@ -1,13 +1,14 @@
--- Past the refusal, the form.
+-- Past the refusal, the three parts of the form.
 use mathlib.Core.Path.{◌≡◌, refl, sym, ◌∙◌}
-use mathlib.Core.Logic.{inl}
 use Prim.Native.Nat.{◌≤◌}
+use native.Mathlib.Omega.{arith}
 use borrow.Author.Rules.{rules}
 use lib.ListN.{length}
 use Rattle.plan.specs.Plan.{Accepted}
 use Rattle.plan.proofs.AcceptedLaws.{accepted}
-use Rattle.stored_plan.specs.Form.{new_layout, size_of}
+use Rattle.stored_plan.specs.Form.{bucket_offset, form_size}
 use Rattle.stored_plan.specs.Writing.{write_refusal}
+use Rattle.stored_plan.proofs.FormLaws.{put_form}
 use Rattle.stored_plan.proofs.Refusals.{writable, written_none, written_some}
 use Rattle.stored_plan.proofs.writing.write_plan.Statement.{statement}
 use Rattle.stored_plan.proofs.writing.write_plan.Tie as tie
@@ -16,11 +17,12 @@ use Rattle.stored_plan.proofs.writing.write_plan.Tie as tie
 none : (c : tie.Else1) → let a = c.before.before.before.args in write_refusal a.p a.bytes.now ≡ 0
 none c = sym (c.before.write_refusal_lem.ensures c.before.before.before.args.bytes.now refl) ∙ c.if1.false
 
-fits : (c : tie.Else1) → let a = c.before.before.before.args in Accepted a.p × (size_of new_layout a.p ≤ length a.bytes.now)
+fits : (c : tie.Else1) → let a = c.before.before.before.args in
+    Accepted a.p × (form_size a.p.count a.p.buckets ≤ length a.bytes.now)
 fits c =
     let a = c.before.before.before.args in
     let w = (writable a.p a.bytes.now).0 (none c) in
-    ((accepted a.p).0 w.0, w.1)
+    ((accepted a.p).0 w.0, w.1.1)
 
 write-refusal-requires : tie.Need-write-refusal-requires
 write-refusal-requires c κs = search rules
@@ -31,10 +33,20 @@ returns c =
     let r = c.before.write_refusal_lem in
     written_some a.p a.bytes.now r.result c.if1.true (sym (r.ensures a.bytes.now refl))
 
-put-form-requires : tie.Need-put-form-requires
-put-form-requires c κs =
-    let f = fits c.before in
-    (inl refl, (f.0.count_range.1, f.0.buckets_range.1, f.0.points_sound.few), f.1)
+write-header-requires : tie.Need-write-header-requires
+unfolding form_size bucket_offset
+write-header-requires c κs = let f = fits c.before in omega arith
+
+write-thresholds-requires : tie.Need-write-thresholds-requires
+unfolding form_size
+write-thresholds-requires c κs =
+    let f = fits c.before.before.before.before.before in
+    (f.0.count_range.1, omega arith)
+
+write-buckets-requires : tie.Need-write-buckets-requires
+write-buckets-requires c κs =
+    let f = fits c.before.before.before.before.before.before.before.before.before in
+    (f.0.buckets_range.1, omega arith)
 
 form-size-requires : tie.Need-form-size-requires
 form-size-requires c κs = search rules
@@ -44,11 +56,25 @@ same_length c = search rules
 
 returns-2 : tie.Need-returns-2
 returns-2 c =
-    let e = c.before.before.before.before.before in
-    let a = e.before.before.before.args in
-    let w = written_none a.p a.bytes.now (none e) in
-    (rw (e.if1.false, c.form_size_lem.ensures) w.0, c.before.before.before.put_form.ensures ∙ w.1)
+    let to-buckets = c.before.before.before in
+    let to-thresholds = to-buckets.before.before.before.before in
+    let to-header = to-thresholds.before.before.before.before in
+    let to-size = to-header.before.before in
+    let a = to-size.before.before.before.args in
+    let w = written_none a.p a.bytes.now (none to-size) in
+    let head = to-header.write-header.ensures in
+    let put = put_form a.p a.bytes.now _ _ _ head to-thresholds.write-thresholds.ensures to-buckets.write-buckets.ensures in
+    (rw (to-size.if1.false, c.form_size_lem.ensures) w.0, put ∙ w.1)
 
 pub write-plan-spec : {M : Type 1} → statement M
 write-plan-spec =
-    tie.close (tie.spec write-refusal-requires returns put-form-requires form-size-requires same_length returns-2)
+    tie.close
+    (tie.spec
+    write-refusal-requires
+    returns
+    write-header-requires
+    write-thresholds-requires
+    write-buckets-requires
+    form-size-requires
+    same_length
+    returns-2)
