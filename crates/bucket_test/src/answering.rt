@@ -16,7 +16,7 @@ use walk::soundness::is_wide;
 use walk::{MILLION, Mark};
 
 // The interval from low to high, in millionths.
-#[derive(Drop)]
+#[derive(Clone, Copy)]
 pub struct Interval {
     pub low: u32,
     pub high: u32,

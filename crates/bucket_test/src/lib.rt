@@ -1,4 +1,6 @@
 // The bucket test: a beginning, draws, and the answer.
+#![tactic(auto)]
+
 pub mod answering;
 pub mod drawing;
 pub mod judging;
@@ -9,14 +11,14 @@ use plan::COUNT_LIMIT;
 use walk::{Mark, Walked};
 
 // A threshold's record: its mark, and where its walk stands.
-#[derive(Drop)]
+#[derive(Clone, Copy)]
 pub struct Threshold {
     pub mark: Mark,
     pub walked: Walked,
 }
 
 // The state of a test: the draws taken, n, the ones among them, S, and a record for each threshold.
-#[derive(Drop)]
+#[derive(Clone, Copy)]
 pub struct State {
     pub n: u32,
     pub ones: u32,
@@ -24,7 +26,7 @@ pub struct State {
 }
 
 // What a beginning or a draw answers: a bucket by its number from 1, a refusal by its number.
-#[derive(Drop)]
+#[derive(Clone, Copy)]
 pub enum Answer {
     Open,
     Decided(u32),
@@ -35,14 +37,14 @@ pub enum Answer {
 }
 
 // An answer with the state that a call hands back.
-#[derive(Drop)]
+#[derive(Clone, Copy)]
 pub struct Drawn {
     pub answer: Answer,
     pub state: State,
 }
 
 // The answer to a state, with its interval, in millionths.
-#[derive(Drop)]
+#[derive(Clone, Copy)]
 pub struct Report {
     pub answer: Answer,
     pub low: u32,

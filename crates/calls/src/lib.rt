@@ -1,4 +1,6 @@
 // The calls from C over saved tests (saved 6, 7): bytes and numbers only, and nothing kept between them.
+#![tactic(auto)]
+
 mod answers;
 mod beginning;
 mod drawing;
@@ -25,7 +27,7 @@ use stored_plan::reading::{plan_into, read_plan};
 
 // How the records of a test stand to the answer rule: the interval, in millionths, and whether an open threshold is wide. The ends stand apart,
 // since a copy of both at once would wait until each is stored.
-#[derive(Drop)]
+#[derive(Clone, Copy)]
 pub struct Standing {
     pub high: u32,
     pub wide: bool,
@@ -33,14 +35,14 @@ pub struct Standing {
 }
 
 // The masses that the turns left, and how the new records stand.
-#[derive(Drop)]
+#[derive(Clone, Copy)]
 pub struct Turned {
     pub masses: usize,
     pub standing: Standing,
 }
 
 // The refusal, 12, or 0 and how the new records stand.
-#[derive(Drop)]
+#[derive(Clone, Copy)]
 pub struct Taken {
     pub refusal: u32,
     pub low: u32,

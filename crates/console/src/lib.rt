@@ -1,4 +1,6 @@
 // The program but for its write (rules 9).
+#![tactic(auto)]
+
 mod ascii;
 mod feeding;
 mod input;

@@ -39,7 +39,7 @@ fn put_number(out: &mut [u8], at: usize, number: u32) -> usize
 }
 
 // A word: the bytes, and how many of them it has.
-#[derive(Drop)]
+#[derive(Clone, Copy)]
 struct Word([u8; 7], usize);
 
 fn word_of(a: Answer) -> Word

@@ -19,7 +19,7 @@ use stored_plan::reading::read_plan;
 use walk::WIDE;
 
 // Where a test stands, and whether it takes more.
-#[derive(Drop)]
+#[derive(Clone, Copy)]
 struct Fed {
     more: bool,
     drawn: Drawn,

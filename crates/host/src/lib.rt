@@ -1,6 +1,8 @@
 // The entries of the library as C functions, for the comparison of `tests/`: any plan, state, words, bytes and run go in, and what an
 // entry hands back comes out.
 
+#![tactic(auto)]
+
 mod plans;
 pub mod runs;
 mod states;
@@ -27,7 +29,7 @@ use stored_plan::writing::write_plan;
 
 // A plan, with the number of its refusal where one was asked for.
 #[repr(C)]
-#[derive(Drop)]
+#[derive(Clone, Copy)]
 pub struct HostPlan {
     pub refusal: u32,
     pub count: u32,
@@ -45,7 +47,7 @@ pub struct HostPlan {
 
 // A record. Its mark is 0 open, 1 above, 2 at most, at a step.
 #[repr(C)]
-#[derive(Drop)]
+#[derive(Clone, Copy)]
 pub struct HostRecord {
     pub mark: u32,
     pub step: u32,
@@ -59,7 +61,7 @@ pub struct HostRecord {
 // A state, with the answer of the call that handed it back: 0 open, 1 decided, 2 crossed, 3 wide, 4 spent, 5 refused, and the number of the
 // bucket or of the refusal.
 #[repr(C)]
-#[derive(Drop)]
+#[derive(Clone, Copy)]
 pub struct HostState {
     pub answer: u32,
     pub number: u32,
@@ -70,7 +72,7 @@ pub struct HostState {
 
 // A test that was read, with the number of the refusal.
 #[repr(C)]
-#[derive(Drop)]
+#[derive(Clone, Copy)]
 pub struct HostTest {
     pub refusal: u32,
     pub n: u32,
@@ -80,7 +82,7 @@ pub struct HostTest {
 
 // An answer with its interval.
 #[repr(C)]
-#[derive(Drop)]
+#[derive(Clone, Copy)]
 pub struct HostReport {
     pub answer: u32,
     pub number: u32,
@@ -90,7 +92,7 @@ pub struct HostReport {
 
 // A refusal and a number of bytes.
 #[repr(C)]
-#[derive(Drop)]
+#[derive(Clone, Copy)]
 pub struct HostWritten {
     pub refusal: u32,
     pub size: usize,
@@ -98,7 +100,7 @@ pub struct HostWritten {
 
 // A run of counting, with the answer of the call that handed it back: 0 open, 1 ended with first / second, 2 refused by the first.
 #[repr(C)]
-#[derive(Drop)]
+#[derive(Clone, Copy)]
 pub struct HostRun {
     pub answer: u32,
     pub first: u32,

@@ -1,4 +1,6 @@
 // The plan of a test, and its rules.
+#![tactic(auto)]
+
 pub mod rules;
 pub mod spending;
 
@@ -19,7 +21,7 @@ pub const DELAY_LIMIT: u32 = 65535;
 // A plan (rules 1.2): so many thresholds, in millionths, with an allowance each, in units, so many buckets, each from a left to a right
 // end, in millionths, the delay k, the horizon N, and so many points, each a step and a share of the allowances, in millionths. Places past a
 // count are ignored.
-#[derive(Drop)]
+#[derive(Clone, Copy)]
 pub struct Plan {
     pub count: u32,
     pub buckets: u32,

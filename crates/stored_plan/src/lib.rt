@@ -1,4 +1,6 @@
 // The stored form of a plan (rules 2).
+#![tactic(auto)]
+
 mod form;
 mod order;
 pub mod reading;
@@ -12,14 +14,14 @@ pub const HEADER_SIZE: usize = 16;
 pub const FORM_LIMIT: usize = 264;
 
 // A plan that was read, or the number of the refusal, 0 for none; a refused reading hands back zeros in every number of the plan.
-#[derive(Drop)]
+#[derive(Clone, Copy)]
 pub struct Read {
     pub refusal: u32,
     pub plan: Plan,
 }
 
 // The refusal of a plan whose tables were read into lent ones, 0 for none, and its other numbers, which say nothing where it is refused.
-#[derive(Drop)]
+#[derive(Clone, Copy)]
 pub struct Head {
     pub refusal: u32,
     pub count: u32,
@@ -29,7 +31,7 @@ pub struct Head {
 }
 
 // The number of bytes written, or the number of the refusal, 0 for none.
-#[derive(Drop)]
+#[derive(Clone, Copy)]
 pub struct Written {
     pub refusal: u32,
     pub size: usize,

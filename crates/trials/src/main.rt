@@ -1,5 +1,7 @@
 // The trials that are run (rules 11.2), and the program's other ends: each a run on a plan and an input of data/, one line for each.
 
+#![tactic(auto)]
+
 use bucket_test::Drawn;
 use bucket_test::drawing::{begin, draw};
 use console::line::{LINE_BUFFER, last_line};

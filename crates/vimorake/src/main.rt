@@ -1,4 +1,6 @@
 // The program: the file `plan`, draws from standard input, one line to standard output (rules 9).
+#![tactic(auto)]
+
 use console::line::LINE_BUFFER;
 use console::program::PLAN_BUFFER;
 

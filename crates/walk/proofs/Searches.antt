@@ -1,5 +1,5 @@
 -- The searches of specs/Numbers find the smallest and the largest, and there is one only.
-use Rattle.std.proofs.Common.{◌≡◌, ℕ, zero, suc, ◌+◌, ◌-◌, ◌<◌, ◌≤◌, Bool, true, false, ◌⊎◌, sym, refl, ◌∙◌, inl, inr, add-zero, add-suc, suc-add, eq-or-lt_of_le, arith}
+use Rattle.std.proofs.Common.{◌≡◌, ℕ, zero, suc, ◌+◌, ◌<◌, ◌≤◌, Bool, true, false, ◌⊎◌, sym, refl, ◌∙◌, inl, inr, add-zero, add-suc, suc-add, eq-or-lt_of_le, arith}
 use Rattle.walk.specs.Numbers.{le?, choose, Smallest, Largest, search_up, search_down}
 use Rattle.walk.proofs.Tests.{clash, le?_sound, le?_complete}
 

@@ -1,5 +1,5 @@
 -- What refusal 11 leaves: a row that may walk on; and it never refuses a row of the walk.
-use Rattle.std.proofs.Common.{◌≡◌, ℕ, suc, ◌+◌, ◌-◌, ◌*◌, ◌<◌, ◌≤◌, true, false, ◌↔◌, List, length, take, replicate, ℤ, pos, negsuc, ◌-ℤ◌, sym, refl, ap, ◌∙◌, arith, length-append, length-take-le, take_at, le-leb, leb-true}
+use Rattle.std.proofs.Common.{◌≡◌, ℕ, suc, ◌+◌, ◌-◌, ◌<◌, ◌≤◌, true, false, ◌↔◌, List, length, take, replicate, ℤ, pos, negsuc, ◌-ℤ◌, sym, refl, ap, ◌∙◌, arith, length-append, length-take-le, take_at, le-leb, leb-true}
 use lib.ListN.{length-replicate}
 use lib.Signed.{le_z, lt_z}
 use Rattle.walk.specs.Numbers.{le?, lt?, all_up_to}

@@ -1,5 +1,7 @@
 // The walk of one threshold: its spending, its masses and its boundaries, one step at a time (rules 3).
 
+#![tactic(auto)]
+
 mod mass;
 pub mod row;
 pub mod soundness;
@@ -25,14 +27,14 @@ pub const HORIZON_LIMIT: u32 = 50000;
 pub const ALLOWANCE_LIMIT: u64 = 2199023255551;
 
 // The portion of its allowance that a side may have spent after some draws.
-#[derive(Drop)]
+#[derive(Clone, Copy)]
 pub struct Portion {
     pub numerator: u64,
     pub denominator: u64,
 }
 
 // How the draws stand to a threshold: open, or settled at a step (rules 6).
-#[derive(Drop)]
+#[derive(Clone, Copy)]
 pub enum Mark {
     Open,
     Above(u32),
@@ -41,7 +43,7 @@ pub enum Mark {
 
 // Where a walk stands after a step: its boundaries, between which the live counts lie, its upper and lower spent mass, and how many new masses
 // were rounded so far.
-#[derive(Drop)]
+#[derive(Clone, Copy)]
 pub struct Walked {
     pub lower: i32,
     pub upper: u32,
@@ -51,7 +53,7 @@ pub struct Walked {
 }
 
 // What a pass over masses keeps of them: bits that tell whether each is at most 2^43, and, where they are and are not too many, their sum.
-#[derive(Drop)]
+#[derive(Clone, Copy)]
 pub struct Weighed {
     pub bits: u64,
     pub sum: u64,

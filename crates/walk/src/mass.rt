@@ -12,7 +12,7 @@ const MILLIONTHS: u64 = MILLION as u64;
 const ALMOST_ONE: u64 = 999999;
 
 // A new mass, and 1 where it was rounded, else 0.
-#[derive(Drop)]
+#[derive(Clone, Copy)]
 pub(crate) struct NewMass {
     pub mass: u64,
     pub rounding: u32,

@@ -8,14 +8,14 @@ ghost use Rattle.walk.specs.Row.{new_masses, roundings, kept, dropped};
 use crate::mass::mass_up;
 
 // Where a boundary lies among the new masses, and the spent mass of its side then.
-#[derive(Drop)]
+#[derive(Clone, Copy)]
 struct Edge {
     pub at: usize,
     pub spent: u64,
 }
 
 // Where the new masses are cut at both ends, and both spent masses then.
-#[derive(Drop)]
+#[derive(Clone, Copy)]
 pub(crate) struct Cut {
     pub hi: usize,
     pub lo: usize,
