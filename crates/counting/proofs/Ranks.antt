@@ -1,6 +1,6 @@
 -- Of different results, exactly j have at most j that are at least as large, themselves among them.
 use mathlib.Core.Path.{◌≡◌, refl, sym, ap, ◌∙◌}
-use mathlib.Core.Bool.{Bool, true, false, ◌&&◌, and_true, and-false}
+use mathlib.Core.Bool.{Bool, true, false, ◌&&◌, and-true, and-false}
 use mathlib.Core.List.{List, [], ◌∷◌}
 use Prim.Native.Nat.{ℕ, zero, suc, ◌+◌, ◌≤◌, min}
 use native.Mathlib.Nat.{zero-add, suc-add, add-suc}
@@ -61,7 +61,7 @@ module _ (xs : List ℕ) (d : Different xs) (h : ℕ) where
 
   above_split : (v : ℕ) → above v ≡ how_many (eq? v) xs + above (suc v)
   unfolding above
-  above_split v = simp and_true at (split (λ x. true) v xs)
+  above_split v = simp and-true at (split (λ x. true) v xs)
 
   -- the results from v on that have few at least as large
   those : ℕ → ℕ
@@ -75,7 +75,7 @@ module _ (xs : List ℕ) (d : Different xs) (h : ℕ) where
   climb_one v e = rw (those_split v) (go (few v) (few_test v))
     where
       go : (b : Bool) → Le? (above v) h b → how_many (λ x. eq? v x && b) xs + those (suc v) ≡ min h (above v)
-      go true (le p) = rw (many_cong (λ x. eq? v x && true) (eq? v) (λ x. and_true (eq? v x)) xs) (omega (arith, above_split v, d.once v))
+      go true (le p) = rw (many_cong (λ x. eq? v x && true) (eq? v) (λ x. and-true (eq? v x)) xs) (omega (arith, above_split v, d.once v))
       go false (gt p) = rw (many_cong (λ x. eq? v x && false) (λ x. false) (λ x. and-false (eq? v x)) xs, many_none xs) (omega (arith, above_split v, d.once v))
 
   those_above : (v : ℕ) → those v ≤ above v

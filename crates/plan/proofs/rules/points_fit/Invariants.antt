@@ -1,0 +1,32 @@
+-- The points before place j fit, and `step` and `share` are those of the last of them.
+use mathlib.Core.Path.{◌≡◌, refl, ap}
+use mathlib.Core.Bool.{true, false}
+use Prim.Native.Nat.{ℕ, zero, suc, ◌≤◌, ◌<◌, ◌-◌}
+use native.Mathlib.Numerals.{add-one}
+use native.Mathlib.Omega.{arith}
+use borrow.Author.Rules.{rules}
+use lib.ListN.{get_or}
+use Rattle.walk.specs.Units.{million}
+use Rattle.walk.proofs.Tests.{le?_complete, le?_fails}
+use Rattle.plan.specs.Plan.{point_limit, step_at, share_at, point_fits, rule16}
+use Rattle.plan.specs.declared.Plan.{Plan}
+use Rattle.plan.proofs.PlaceLaws.{fails_by, Sought, sought_none, sought_next, sought_here, sought_nowhere}
+use Rattle.plan.proofs.AcceptedLaws.{PointFits, point_says}
+use Rattle.plan.proofs.rules.points_fit.Given as goal
+
+-- the step and the share of the point before place j, 0 before the first
+abbrev pub step_before : Plan → ℕ → ℕ
+step_before p zero = 0
+step_before p (suc j) = step_at p j
+
+abbrev pub share_before : Plan → ℕ → ℕ
+share_before p zero = 0
+share_before p (suc j) = share_at p j
+
+abbrev pub invariant-loop-j : goal.invariant-loop-j
+invariant-loop-j l =
+    (p : Plan) → p.points ≡ l.points → p.horizon ≡ l.horizon → p.steps ≡ l.steps → p.shares ≡ l.shares
+    → (l.step ≡ step_before p l.j) × (l.share ≡ share_before p l.j) × Sought false (point_fits p) p.points l.j
+
+abbrev pub decreases-loop-j : goal.decreases-loop-j
+decreases-loop-j l = l.count - l.j

@@ -1,0 +1,29 @@
+-- The thresholds before place i are in their range and rise, and `before` is the last of them.
+use mathlib.Core.Path.{◌≡◌, refl, ap}
+use mathlib.Core.Bool.{Bool, true, false, ◌&&◌}
+use Prim.Native.Nat.{ℕ, zero, suc, ◌≤◌, ◌<◌, ◌-◌}
+use native.Mathlib.Numerals.{add-one}
+use native.Mathlib.Omega.{arith}
+use borrow.Author.Rules.{rules}
+use lib.ListN.{get_or}
+use Rattle.walk.proofs.Tests.{le?_complete, le?_fails}
+use Rattle.plan.specs.Places.{within}
+use Rattle.plan.specs.Plan.{threshold_limit, threshold_at, above_before, rule2}
+use Rattle.plan.specs.declared.Plan.{Plan}
+use Rattle.plan.proofs.PlaceLaws.{and_fails, within_reads, within_low, within_high, Sought, sought_none, sought_next, sought_here, sought_nowhere}
+use Rattle.plan.proofs.rules.thresholds_rise.Given as goal
+
+abbrev pub fits : Plan → ℕ → Bool
+fits p i = within 1 threshold_limit (threshold_at p i) && above_before p i
+
+-- the threshold before place i, 0 before the first
+abbrev pub before_at : Plan → ℕ → ℕ
+before_at p zero = 0
+before_at p (suc i) = threshold_at p i
+
+abbrev pub invariant-loop-i : goal.invariant-loop-i
+invariant-loop-i l =
+    (p : Plan) → p.count ≡ l.count → p.thresholds ≡ l.ts → (l.before ≡ before_at p l.i) × Sought false (fits p) p.count l.i
+
+abbrev pub decreases-loop-i : goal.decreases-loop-i
+decreases-loop-i l = l.count - l.i
