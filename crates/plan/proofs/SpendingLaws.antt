@@ -2,7 +2,7 @@
 use mathlib.Core.Path.{◌≡◌, refl, sym, ap, ◌∙◌}
 use mathlib.Core.Bool.{Bool, true, false}
 use mathlib.Core.Logic.{◌⊎◌, inl, inr, ⊎_elim}
-use Prim.Native.Nat.{ℕ, zero, suc, ◌*◌, ◌/◌, ◌≤◌, ◌<◌}
+use Prim.Native.Nat.{ℕ, zero, suc, ◌≤◌, ◌<◌}
 use native.Mathlib.Nat.{mul-zero, zero-div}
 use native.Mathlib.Omega.{arith}
 use Rattle.walk.specs.Units.{million, allowance_limit, horizon_limit}
@@ -11,7 +11,7 @@ use Rattle.walk.specs.Spending.{spending, portioned}
 use Rattle.walk.specs.declared.Portion.{Portion}
 use Rattle.walk.proofs.SpendingLaws.{spending-zero}
 use Rattle.plan.specs.Places.{eq?}
-use Rattle.plan.specs.Points.{point_spending, share_by, LastPoint}
+use Rattle.plan.specs.Points.{point_spending, share_by}
 use Rattle.plan.specs.Plan.{allowance_at, step_at, share_at, spending_of, Accepted, Spends, SpendingTheorem}
 use Rattle.plan.specs.Tables.{portion_by, portion_of}
 use Rattle.plan.specs.declared.Plan.{Plan}

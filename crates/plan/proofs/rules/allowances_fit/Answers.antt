@@ -1,13 +1,8 @@
 -- The allowances before place i are in their range.
-use mathlib.Core.Bool.{Bool, false}
-use mathlib.Core.List.{List}
-use Prim.Native.Nat.{ℕ, ◌-◌}
-use borrow.Author.Rules.{rules}
-use lib.ListN.{get_or}
+use mathlib.Core.Bool.{false}
 use Rattle.walk.specs.Units.{allowance_limit}
-use Rattle.plan.specs.Places.{within}
 use Rattle.plan.specs.Plan.{rule3}
-use Rattle.plan.proofs.PlaceLaws.{within_reads, within_low, within_high, Sought, sought_none, sought_next, sought_here, sought_nowhere}
+use Rattle.plan.proofs.PlaceLaws.{within_reads, within_low, within_high, sought_none, sought_next, sought_here, sought_nowhere}
 use Rattle.plan.proofs.rules.allowances_fit.Goals as goal
 
 pub loop-i-init : goal.loop-i-init

@@ -2,12 +2,10 @@
 use mathlib.Core.Bool.{Bool, false}
 use mathlib.Core.List.{List}
 use Prim.Native.Nat.{ℕ, ◌-◌}
-use borrow.Author.Rules.{rules}
 use lib.ListN.{get_or}
 use Rattle.walk.specs.Units.{allowance_limit}
 use Rattle.plan.specs.Places.{within}
-use Rattle.plan.specs.Plan.{rule3}
-use Rattle.plan.proofs.PlaceLaws.{within_reads, within_low, within_high, Sought, sought_none, sought_next, sought_here, sought_nowhere}
+use Rattle.plan.proofs.PlaceLaws.{Sought}
 use Rattle.plan.proofs.rules.allowances_fit.Given as goal
 
 abbrev pub fits : List ℕ → ℕ → Bool

@@ -1,10 +1,8 @@
 -- One part of rule 5 after the other.
 use mathlib.Core.Path.{◌≡◌, sym, ◌∙◌}
 use mathlib.Core.Bool.{false, ◌&&◌}
-use mathlib.Core.Logic.{⊎_elim}
 use Prim.Native.Nat.{ℕ, suc, ◌≤◌, ◌<◌}
 use native.Mathlib.Omega.{arith}
-use borrow.Author.Rules.{rules}
 use borrow.Author.Tests.{eqb-true, eqb-false}
 use Rattle.walk.specs.Units.{million}
 use Rattle.walk.proofs.Tests.{le?_complete, le?_fails}
@@ -48,8 +46,8 @@ past c p j l r =
     rw (← l, ← r)
     (ends p j (rw (l, r) c.if-right-left.false)
     (λ h. elim c.else-left-eq0.branch [
-      else-left-eq0-via-then-left-eq0+else-right-eq-MILLION w ↦ eqb-false _ _ w.if-right-eq-MILLION.false-raw (sym r ∙ h.1)
-    | else-left-eq0-via-else-left-eq0 w ↦ w.if-left-eq0.false (sym l ∙ h.0)
+      | else-left-eq0-via-then-left-eq0+else-right-eq-MILLION w ↦ eqb-false _ _ w.if-right-eq-MILLION.false-raw (sym r ∙ h.1)
+      | else-left-eq0-via-else-left-eq0 w ↦ w.if-left-eq0.false (sym l ∙ h.0)
     ]))
 
 pub returns-then-is_permitted : goal.returns-then-is_permitted

@@ -1,13 +1,12 @@
 -- The buckets before place j fit.
 use mathlib.Core.Path.{◌≡◌, sym, ap, ◌∙◌}
 use mathlib.Core.Bool.{false}
-use Prim.Native.Nat.{ℕ, ◌-◌}
-use borrow.Author.Rules.{rules}
+use Prim.Native.Nat.{ℕ}
 use lib.ListN.{get_or}
 use Rattle.plan.specs.Places.{all_to}
 use Rattle.plan.specs.Plan.{bucket_fits, rule5}
 use Rattle.plan.specs.declared.Plan.{Plan}
-use Rattle.plan.proofs.PlaceLaws.{passed, failed, Sought, sought_none, sought_next, sought_here, sought_nowhere}
+use Rattle.plan.proofs.PlaceLaws.{passed, failed, sought_none, sought_next, sought_here, sought_nowhere}
 use Rattle.plan.proofs.rules.buckets_fit.Goals.{After-bucket_fits}
 use Rattle.plan.proofs.rules.buckets_fit.Goals as goal
 

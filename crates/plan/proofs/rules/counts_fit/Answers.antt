@@ -1,5 +1,4 @@
 -- Rule 1 is the two ranges.
-use borrow.Author.Rules.{rules}
 use Rattle.plan.specs.Plan.{counts_fit}
 use Rattle.plan.proofs.rules.counts_fit.Goals as goal
 

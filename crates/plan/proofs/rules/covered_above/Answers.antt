@@ -1,16 +1,11 @@
 -- Below the top, no bucket before place i covers what lies just above e.
 use mathlib.Core.Path.{sym}
-use mathlib.Core.Bool.{Bool, true, ◌&&◌}
-use mathlib.Core.List.{List}
-use mathlib.Core.Logic.{⊎_elim}
-use Prim.Native.Nat.{ℕ, ◌-◌}
-use borrow.Author.Rules.{rules}
+use mathlib.Core.Bool.{true}
 use borrow.Author.Tests.{le-leb, lt-leb}
-use lib.ListN.{get_or}
-use Rattle.walk.specs.Numbers.{le?, lt?}
+use Rattle.walk.specs.Numbers.{le?}
 use Rattle.walk.specs.Units.{million}
 use Rattle.plan.specs.Plan.{covered_above}
-use Rattle.plan.proofs.PlaceLaws.{or_holds, Sought, sought_none, sought_next, sought_here, sought_nowhere}
+use Rattle.plan.proofs.PlaceLaws.{or_holds, sought_none, sought_next, sought_here, sought_nowhere}
 use Rattle.plan.proofs.rules.covered_above.Goals.{else-ls-i-via-then-ls-i+else-e-rs, else-ls-i-via-else-ls-i}
 use Rattle.plan.proofs.rules.covered_above.Goals as goal
 
@@ -36,8 +31,8 @@ unfolding le?
 loop-i-preserved c =
     sought_next true _ c.loop-i.invariant c.loop-i-test.true
     (elim c.else-ls-i.branch [
-      else-ls-i-via-then-ls-i+else-e-rs w ↦ rw (le-leb _ _ w.if-ls-i.true) w.if-e-rs.false-raw
-    | else-ls-i-via-else-ls-i w ↦ rw (lt-leb _ _ w.if-ls-i.false)
+      | else-ls-i-via-then-ls-i+else-e-rs w ↦ rw (le-leb _ _ w.if-ls-i.true) w.if-e-rs.false-raw
+      | else-ls-i-via-else-ls-i w ↦ rw (lt-leb _ _ w.if-ls-i.false)
     ])
 
 pub returns : goal.returns

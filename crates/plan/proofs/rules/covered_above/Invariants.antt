@@ -1,16 +1,10 @@
 -- Below the top, no bucket before place i covers what lies just above e.
-use mathlib.Core.Path.{sym}
 use mathlib.Core.Bool.{Bool, true, ◌&&◌}
 use mathlib.Core.List.{List}
-use mathlib.Core.Logic.{⊎_elim}
 use Prim.Native.Nat.{ℕ, ◌-◌}
-use borrow.Author.Rules.{rules}
-use borrow.Author.Tests.{le-leb, lt-leb}
 use lib.ListN.{get_or}
 use Rattle.walk.specs.Numbers.{le?, lt?}
-use Rattle.walk.specs.Units.{million}
-use Rattle.plan.specs.Plan.{covered_above}
-use Rattle.plan.proofs.PlaceLaws.{or_holds, Sought, sought_none, sought_next, sought_here, sought_nowhere}
+use Rattle.plan.proofs.PlaceLaws.{Sought}
 use Rattle.plan.proofs.rules.covered_above.Given as goal
 
 abbrev pub over : List ℕ → List ℕ → ℕ → ℕ → Bool

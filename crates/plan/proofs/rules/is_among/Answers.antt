@@ -1,11 +1,6 @@
 -- No number before place i is x.
-use mathlib.Core.Bool.{Bool, true}
-use mathlib.Core.List.{List}
-use Prim.Native.Nat.{ℕ, ◌-◌}
-use borrow.Author.Rules.{rules}
-use lib.ListN.{get_or}
-use Rattle.plan.specs.Places.{eq?}
-use Rattle.plan.proofs.PlaceLaws.{eq?_complete, eq?_fails, Sought, sought_none, sought_next, sought_here, sought_nowhere}
+use mathlib.Core.Bool.{true}
+use Rattle.plan.proofs.PlaceLaws.{eq?_complete, eq?_fails, sought_none, sought_next, sought_here, sought_nowhere}
 use Rattle.plan.proofs.rules.is_among.Goals as goal
 
 pub loop-i-init : goal.loop-i-init

@@ -2,10 +2,9 @@
 use mathlib.Core.Bool.{Bool, true}
 use mathlib.Core.List.{List}
 use Prim.Native.Nat.{ℕ, ◌-◌}
-use borrow.Author.Rules.{rules}
 use lib.ListN.{get_or}
 use Rattle.plan.specs.Places.{eq?}
-use Rattle.plan.proofs.PlaceLaws.{eq?_complete, eq?_fails, Sought, sought_none, sought_next, sought_here, sought_nowhere}
+use Rattle.plan.proofs.PlaceLaws.{Sought}
 use Rattle.plan.proofs.rules.is_among.Given as goal
 
 abbrev pub is : List ℕ → ℕ → ℕ → Bool

@@ -1,5 +1,4 @@
 -- One kind of permitted end after the other.
-use borrow.Author.Rules.{rules}
 use Rattle.walk.specs.Units.{million}
 use Rattle.plan.specs.Plan.{permitted}
 use Rattle.plan.proofs.PlaceLaws.{eq?_complete, eq?_fails}

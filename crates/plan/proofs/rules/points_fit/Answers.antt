@@ -1,16 +1,15 @@
 -- The points before place j fit, and `step` and `share` are those of the last of them.
 use mathlib.Core.Path.{◌≡◌, refl, ap}
 use mathlib.Core.Bool.{true, false}
-use Prim.Native.Nat.{ℕ, zero, suc, ◌≤◌, ◌<◌, ◌-◌}
+use Prim.Native.Nat.{ℕ, zero, suc, ◌≤◌, ◌<◌}
 use native.Mathlib.Numerals.{add-one}
 use native.Mathlib.Omega.{arith}
-use borrow.Author.Rules.{rules}
 use lib.ListN.{get_or}
 use Rattle.walk.specs.Units.{million}
 use Rattle.walk.proofs.Tests.{le?_complete, le?_fails}
 use Rattle.plan.specs.Plan.{point_limit, step_at, share_at, point_fits, rule16}
 use Rattle.plan.specs.declared.Plan.{Plan}
-use Rattle.plan.proofs.PlaceLaws.{fails_by, Sought, sought_none, sought_next, sought_here, sought_nowhere}
+use Rattle.plan.proofs.PlaceLaws.{fails_by, sought_none, sought_next, sought_here, sought_nowhere}
 use Rattle.plan.proofs.AcceptedLaws.{PointFits, point_says}
 use Rattle.plan.proofs.rules.points_fit.Invariants.{step_before, share_before}
 use Rattle.plan.proofs.rules.points_fit.Goals.{After-more-1}
@@ -37,7 +36,6 @@ loop-j-init c p k n ts xs = (refl, refl, sought_none false _)
 
 -- the point that the turn reads is the plan's; where it does not fit, neither do the points
 module _ (c : After-more-1) where
-
   abbrev j : ℕ
   j = c.loop-j.j
 

@@ -1,17 +1,10 @@
 -- The points before place j fit, and `step` and `share` are those of the last of them.
-use mathlib.Core.Path.{◌≡◌, refl, ap}
-use mathlib.Core.Bool.{true, false}
-use Prim.Native.Nat.{ℕ, zero, suc, ◌≤◌, ◌<◌, ◌-◌}
-use native.Mathlib.Numerals.{add-one}
-use native.Mathlib.Omega.{arith}
-use borrow.Author.Rules.{rules}
-use lib.ListN.{get_or}
-use Rattle.walk.specs.Units.{million}
-use Rattle.walk.proofs.Tests.{le?_complete, le?_fails}
-use Rattle.plan.specs.Plan.{point_limit, step_at, share_at, point_fits, rule16}
+use mathlib.Core.Path.{◌≡◌}
+use mathlib.Core.Bool.{false}
+use Prim.Native.Nat.{ℕ, zero, suc, ◌-◌}
+use Rattle.plan.specs.Plan.{step_at, share_at, point_fits}
 use Rattle.plan.specs.declared.Plan.{Plan}
-use Rattle.plan.proofs.PlaceLaws.{fails_by, Sought, sought_none, sought_next, sought_here, sought_nowhere}
-use Rattle.plan.proofs.AcceptedLaws.{PointFits, point_says}
+use Rattle.plan.proofs.PlaceLaws.{Sought}
 use Rattle.plan.proofs.rules.points_fit.Given as goal
 
 -- the step and the share of the point before place j, 0 before the first

@@ -1,13 +1,12 @@
 -- What lies just above each right end before place j is covered.
 use mathlib.Core.Path.{◌≡◌, ap, ◌∙◌}
-use mathlib.Core.Bool.{Bool, false}
+use mathlib.Core.Bool.{false}
 use mathlib.Core.List.{List}
-use Prim.Native.Nat.{ℕ, ◌-◌}
-use borrow.Author.Rules.{rules}
+use Prim.Native.Nat.{ℕ}
 use lib.ListN.{get_or}
-use Rattle.plan.specs.Plan.{right_at, covered_above}
+use Rattle.plan.specs.Plan.{covered_above}
 use Rattle.plan.specs.declared.Plan.{Plan}
-use Rattle.plan.proofs.PlaceLaws.{passed, failed, Sought, sought_none, sought_next, sought_here, sought_nowhere}
+use Rattle.plan.proofs.PlaceLaws.{passed, failed, sought_none, sought_next, sought_here, sought_nowhere}
 use Rattle.plan.proofs.rules.right_ends_covered.Invariants.{covered}
 use Rattle.plan.proofs.rules.right_ends_covered.Goals as goal
 

@@ -1,7 +1,6 @@
 -- Past each rule that is kept, the refusal is the first of those left to judge.
 use mathlib.Core.Path.{◌≡◌, refl, sym, ◌∙◌}
 use Prim.Native.Nat.{suc}
-use borrow.Author.Rules.{rules}
 use Rattle.plan.specs.Places.{first_refusal}
 use Rattle.plan.specs.Plan.{rule1, plan_refusal}
 use Rattle.plan.specs.Tables.{plan_with}

@@ -1,15 +1,11 @@
 -- The neighbours before place i differ enough.
 use mathlib.Core.Bool.{false}
-use mathlib.Core.Path.{◌≡◌}
-use Prim.Native.Nat.{suc, ◌-◌, ◌<◌}
+use Prim.Native.Nat.{suc, ◌<◌}
 use native.Mathlib.Numerals.{add-one}
 use native.Mathlib.Omega.{arith}
-use borrow.Author.Rules.{rules}
 use lib.ListN.{get_or}
 use Rattle.walk.proofs.Tests.{le?_complete, le?_fails}
-use Rattle.plan.specs.Plan.{apart_from_next}
-use Rattle.plan.specs.declared.Plan.{Plan}
-use Rattle.plan.proofs.PlaceLaws.{Sought, sought_none, sought_next, sought_here, sought_nowhere}
+use Rattle.plan.proofs.PlaceLaws.{sought_none, sought_next, sought_here, sought_nowhere}
 use Rattle.plan.proofs.rules.thresholds_apart.Goals.{After-t-1}
 use Rattle.plan.proofs.rules.thresholds_apart.Goals as goal
 

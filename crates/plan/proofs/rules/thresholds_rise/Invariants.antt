@@ -1,16 +1,11 @@
 -- The thresholds before place i are in their range and rise, and `before` is the last of them.
-use mathlib.Core.Path.{◌≡◌, refl, ap}
-use mathlib.Core.Bool.{Bool, true, false, ◌&&◌}
-use Prim.Native.Nat.{ℕ, zero, suc, ◌≤◌, ◌<◌, ◌-◌}
-use native.Mathlib.Numerals.{add-one}
-use native.Mathlib.Omega.{arith}
-use borrow.Author.Rules.{rules}
-use lib.ListN.{get_or}
-use Rattle.walk.proofs.Tests.{le?_complete, le?_fails}
+use mathlib.Core.Path.{◌≡◌}
+use mathlib.Core.Bool.{Bool, false, ◌&&◌}
+use Prim.Native.Nat.{ℕ, zero, suc, ◌-◌}
 use Rattle.plan.specs.Places.{within}
-use Rattle.plan.specs.Plan.{threshold_limit, threshold_at, above_before, rule2}
+use Rattle.plan.specs.Plan.{threshold_limit, threshold_at, above_before}
 use Rattle.plan.specs.declared.Plan.{Plan}
-use Rattle.plan.proofs.PlaceLaws.{and_fails, within_reads, within_low, within_high, Sought, sought_none, sought_next, sought_here, sought_nowhere}
+use Rattle.plan.proofs.PlaceLaws.{Sought}
 use Rattle.plan.proofs.rules.thresholds_rise.Given as goal
 
 abbrev pub fits : Plan → ℕ → Bool

@@ -1,5 +1,4 @@
 -- Rule 4 is the two ranges.
-use borrow.Author.Rules.{rules}
 use Rattle.walk.specs.Units.{horizon_limit}
 use Rattle.plan.specs.Plan.{rule4}
 use Rattle.plan.proofs.rules.times_fit.Goals as goal

@@ -1,9 +1,8 @@
 -- By the delay where there is no point, else by the share.
-use mathlib.Core.Path.{◌≡◌, refl, sym, ◌∙◌}
+use mathlib.Core.Path.{refl, sym, ◌∙◌}
 use Rattle.walk.specs.Units.{million}
 use Rattle.plan.specs.Tables.{portion_of}
 use Rattle.plan.proofs.PlaceLaws.{eq?_complete, eq?_fails}
-use borrow.Author.Rules.{rules}
 use Rattle.plan.proofs.spending.portion_at.Goals as goal
 
 pub returns-then-points-eq0 : goal.returns-then-points-eq0

@@ -1,11 +1,8 @@
 -- The share is that of the points before place j.
 use mathlib.Core.Path.{◌≡◌, sym, ◌∙◌}
-use mathlib.Core.Logic.{⊎_elim}
-use Prim.Native.Nat.{◌-◌, ◌≤◌}
 use native.Mathlib.Numerals.{add-one}
 use native.Mathlib.Omega.{arith}
 use borrow.Author.Rules.{rules}
-use lib.ListN.{get_or}
 use Rattle.plan.specs.Points.{share_by}
 use Rattle.plan.proofs.PointLaws.{share_reached, share_later}
 use Rattle.plan.proofs.spending.share_by.Goals.{then-steps-j, else-steps-j}
@@ -22,8 +19,8 @@ loop-j-preserved c =
       search rules,
       rw (add-one l.j)
           (elim c.if-steps-j.branch [
-            then-steps-j w ↦ w.share-is ∙ sym (share_reached _ _ l.j a.n w.if-steps-j.true)
-          | else-steps-j w ↦ w.share-is ∙ l.invariant.1 ∙ sym (share_later _ _ l.j a.n w.if-steps-j.false)
+            | then-steps-j w ↦ w.share-is ∙ sym (share_reached _ _ l.j a.n w.if-steps-j.true)
+            | else-steps-j w ↦ w.share-is ∙ l.invariant.1 ∙ sym (share_later _ _ l.j a.n w.if-steps-j.false)
           ]),
     )
 

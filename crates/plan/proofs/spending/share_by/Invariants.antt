@@ -1,13 +1,8 @@
 -- The share is that of the points before place j.
-use mathlib.Core.Path.{◌≡◌, sym, ◌∙◌}
-use mathlib.Core.Logic.{⊎_elim}
+use mathlib.Core.Path.{◌≡◌}
 use Prim.Native.Nat.{◌-◌, ◌≤◌}
-use native.Mathlib.Numerals.{add-one}
-use native.Mathlib.Omega.{arith}
-use borrow.Author.Rules.{rules}
 use lib.ListN.{get_or}
 use Rattle.plan.specs.Points.{share_by}
-use Rattle.plan.proofs.PointLaws.{share_reached, share_later}
 use Rattle.plan.proofs.spending.share_by.Given as goal
 
 abbrev pub invariant-loop-j : goal.invariant-loop-j
