@@ -14,33 +14,30 @@ use Rattle.bucket_choice.specs.Chosen.{Contains}
 use Rattle.bucket_choice.proofs.ChoiceLaws.{contains_says, chosen_cong}
 use Rattle.bucket_choice.proofs.BestLaws.{Held, held_none, held_all, held_contains, held_more, held_first, held_now, held_still}
 use Rattle.bucket_choice.proofs.choosing.chosen_bucket.Invariants.{with_buckets}
-use Rattle.bucket_choice.proofs.choosing.chosen_bucket.Goals.{After-contains, Else-place-buckets}
+use Rattle.bucket_choice.proofs.choosing.chosen_bucket.Goals.{After-contains, Else-place-buckets, then-contains+then-place-buckets, then-contains+else-place-buckets+then-width_of, then-contains+else-place-buckets+else-width_of, else-contains}
 use Rattle.bucket_choice.proofs.choosing.chosen_bucket.Goals as goal
 
 pub loop-j-init : goal.loop-j-init
 loop-j-init c = (omega arith, held_none)
 
-abbrev plan_of : After-contains → Plan
-plan_of c = let a = c.before.before.before.before.before.args in with_buckets a.lefts.now a.rights.now a.buckets
-
 -- the bucket that this turn looks at contains the interval, or does not
 hit : (c : After-contains) → c.contains.result ≡ true
-    → let a = c.args in Contains (plan_of c) a.low a.high c.loop-j.j
+    → let a = c.args in Contains (with_buckets a.lefts.now a.rights.now a.buckets) a.low a.high c.loop-j.j
 unfolding contains
 hit c t =
     let a = c.args in
-    contains_says (plan_of c) a.low a.high c.loop-j.j c.loop-j-test.true
+    contains_says (with_buckets a.lefts.now a.rights.now a.buckets) a.low a.high c.loop-j.j c.loop-j-test.true
     (sym c.contains.ensures ∙ t)
 
 miss : (c : After-contains) → c.contains.result ≡ false
     → let a = c.args in
-    contains (plan_of c) a.low a.high c.loop-j.j ≡ false
+    contains (with_buckets a.lefts.now a.rights.now a.buckets) a.low a.high c.loop-j.j ≡ false
 unfolding contains
 miss c t = sym c.contains.ensures ∙ t
 
 -- the one held does
 held : (c : Else-place-buckets) → let a = c.args in
-    Contains (plan_of c.before.before) a.low a.high c.loop-j.place
+    Contains (with_buckets a.lefts.now a.rights.now a.buckets) a.low a.high c.loop-j.place
 held c = held_contains c.loop-j.invariant.1 c.if-place-buckets.false
 
 pub overflow_cast-held : goal.overflow_cast-held
@@ -78,11 +75,18 @@ loop-j-preserved c =
     let seen = hit here in (
       omega (arith, c.loop-j-test.true),
       rw (add-one l.j)
-          (⊎_elim (λ w. rw w.2 (held_first l.j l.invariant.1 (seen w.0.taken) w.1.taken))
-          (⊎_elim
-          (λ w. rw w.7 (held_now l.j l.invariant.1 (seen w.0.taken) w.1.left (omega (arith, w.2.ensures, w.5.ensures, w.6.taken))))
-          (⊎_elim (λ w. rw w.7 (held_still l.j l.invariant.1 w.1.left (omega (arith, w.2.ensures, w.5.ensures, w.6.left))))
-          (λ w. rw w.1 (held_more l.j l.invariant.1 (miss here w.0.left))))) c.if-contains.branch),
+          (elim c.if-contains.branch [
+            then-contains+then-place-buckets w ↦ rw w.place-is (held_first l.j l.invariant.1 (seen w.if-contains.true) w.if-place-buckets.true)
+          | then-contains+else-place-buckets+then-width_of w ↦
+              rw w.place-is
+              (held_now l.j l.invariant.1 (seen w.if-contains.true) w.if-place-buckets.false
+              (omega (arith, w.width_of.ensures, w.width_of-else-place-buckets.ensures, w.if-width_of.true)))
+          | then-contains+else-place-buckets+else-width_of w ↦
+              rw w.place-is
+              (held_still l.j l.invariant.1 w.if-place-buckets.false
+              (omega (arith, w.width_of.ensures, w.width_of-else-place-buckets.ensures, w.if-width_of.false)))
+          | else-contains w ↦ rw w.place-is (held_more l.j l.invariant.1 (miss here w.if-contains.false))
+          ]),
     )
 
 pub returns : goal.returns

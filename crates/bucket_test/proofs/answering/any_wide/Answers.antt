@@ -1,0 +1,40 @@
+-- Of the first i open thresholds none is wide.
+use mathlib.Core.Path.{sym, ◌∙◌}
+use mathlib.Core.Bool.{Bool, true}
+use mathlib.Core.List.{List}
+use Prim.Native.Nat.{ℕ, ◌-◌}
+use native.Mathlib.Omega.{arith}
+use borrow.Author.Rules.{rules}
+use lib.ListN.{get_or}
+use Rattle.bucket_test.specs.Turn.{no_record, wide_open}
+use Rattle.bucket_test.specs.Answers.{any_wide}
+use Rattle.bucket_test.specs.declared.Threshold.{Threshold}
+use Rattle.plan.proofs.PlaceLaws.{Sought, sought_none, sought_next, sought_here, sought_nowhere}
+use Rattle.bucket_test.proofs.answering.any_wide.Goals as goal
+
+pub loop-i-init : goal.loop-i-init
+loop-i-init c = sought_none true _
+
+pub offset_bounds-records-i : goal.offset_bounds-records-i
+offset_bounds-records-i c = omega (arith, c.requires)
+
+pub bounds-records-i : goal.bounds-records-i
+bounds-records-i c = omega (arith, c.requires)
+
+pub returns-then-wide_open : goal.returns-then-wide_open
+unfolding any_wide
+returns-then-wide_open c =
+    sought_here true _ c.loop-i.invariant c.loop-i-test.true
+    (sym c.wide_open.ensures ∙ c.if-wide_open.true)
+
+pub overflow_add-i : goal.overflow_add-i
+overflow_add-i c = omega (arith, c.requires)
+
+pub loop-i-preserved : goal.loop-i-preserved
+loop-i-preserved c =
+    sought_next true _ c.loop-i.invariant c.loop-i-test.true
+    (sym c.wide_open.ensures ∙ c.if-wide_open.false)
+
+pub returns : goal.returns
+unfolding any_wide
+returns c = sought_nowhere true _ c.loop-i.invariant c.loop-i-test.false

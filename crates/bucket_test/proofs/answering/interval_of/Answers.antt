@@ -1,0 +1,57 @@
+-- After i places the interval is that of the first i thresholds.
+use mathlib.Core.Path.{◌≡◌, refl, ap, ◌∙◌}
+use mathlib.Core.List.{List}
+use Prim.Native.Nat.{ℕ, ◌-◌, ◌≤◌}
+use native.Mathlib.Omega.{arith}
+use borrow.Author.Rules.{rules}
+use lib.ListN.{get_or}
+use Rattle.walk.specs.Numbers.{only, choose}
+use Rattle.walk.specs.Units.{million}
+use Rattle.walk.specs.Strings.{Upper, Lower, is_on}
+use Rattle.plan.specs.Places.{largest_to, smallest_to}
+use Rattle.bucket_test.specs.Turn.{no_record}
+use Rattle.bucket_test.specs.Answers.{low_of, high_of}
+use Rattle.bucket_test.specs.declared.Threshold.{Threshold}
+use Rattle.bucket_test.proofs.AnsweringLaws.{largest_more, smallest_more}
+use Rattle.bucket_test.proofs.answering.interval_of.Invariants.{above_at, at_most_at}
+use Rattle.bucket_test.proofs.answering.interval_of.Goals as goal
+
+pub loop-i-init : goal.loop-i-init
+unfolding largest_to smallest_to million
+loop-i-init c = (omega arith, refl, refl, omega arith)
+
+pub offset_bounds-records-i : goal.offset_bounds-records-i
+offset_bounds-records-i c = omega (arith, c.requires)
+
+pub bounds-records-i : goal.bounds-records-i
+bounds-records-i c = omega (arith, c.requires)
+
+pub offset_bounds-thresholds-i : goal.offset_bounds-thresholds-i
+offset_bounds-thresholds-i c = omega (arith, c.requires)
+
+pub bounds-thresholds-i : goal.bounds-thresholds-i
+bounds-thresholds-i c = omega (arith, c.requires)
+
+pub overflow_add-i : goal.overflow_add-i
+overflow_add-i c = omega (arith, c.requires)
+
+pub loop-i-preserved : goal.loop-i-preserved
+loop-i-preserved c =
+    let k = c.args in
+    let l = c.loop-i in
+    let e = c.narrowed-v.ensures in (
+      omega arith,
+      e.0 ∙ largest_more l.i (above_at k.p.thresholds k.s.records) 0 l.v.low l.invariant.1,
+      e.1 ∙ smallest_more l.i (at_most_at k.p.thresholds k.s.records) million l.v.high l.invariant.2,
+      omega (arith, e.1, l.invariant.3),
+    )
+
+pub returns : goal.returns
+unfolding low_of high_of
+returns c =
+    let k = c.args in
+    let l = c.loop-i in
+    let n : l.i ≡ k.p.count = omega arith in (
+      l.invariant.1 ∙ ap (λ (j : ℕ). largest_to j (above_at k.p.thresholds k.s.records) 0) n,
+      l.invariant.2 ∙ ap (λ (j : ℕ). smallest_to j (at_most_at k.p.thresholds k.s.records) million) n,
+    )

@@ -1,0 +1,32 @@
+-- After i places the interval is that of the first i thresholds.
+use mathlib.Core.Path.{◌≡◌, refl, ap, ◌∙◌}
+use mathlib.Core.List.{List}
+use Prim.Native.Nat.{ℕ, ◌-◌, ◌≤◌}
+use native.Mathlib.Omega.{arith}
+use borrow.Author.Rules.{rules}
+use lib.ListN.{get_or}
+use Rattle.walk.specs.Numbers.{only, choose}
+use Rattle.walk.specs.Units.{million}
+use Rattle.walk.specs.Strings.{Upper, Lower, is_on}
+use Rattle.plan.specs.Places.{largest_to, smallest_to}
+use Rattle.bucket_test.specs.Turn.{no_record}
+use Rattle.bucket_test.specs.Answers.{low_of, high_of}
+use Rattle.bucket_test.specs.declared.Threshold.{Threshold}
+use Rattle.bucket_test.proofs.AnsweringLaws.{largest_more, smallest_more}
+use Rattle.bucket_test.proofs.answering.interval_of.Given as goal
+
+abbrev pub above_at : List ℕ → List Threshold → ℕ → ℕ
+above_at thresholds records k = only (is_on Upper (get_or records k no_record).mark) (get_or thresholds k 0)
+
+abbrev pub at_most_at : List ℕ → List Threshold → ℕ → ℕ
+at_most_at thresholds records k = choose (is_on Lower (get_or records k no_record).mark) (get_or thresholds k 0) million
+
+abbrev pub invariant-loop-i : goal.invariant-loop-i
+invariant-loop-i l =
+    (l.i ≤ l.count)
+    × (l.v.low ≡ largest_to l.i (above_at l.thresholds l.records) 0)
+    × (l.v.high ≡ smallest_to l.i (at_most_at l.thresholds l.records) million)
+    × (l.v.high ≤ million)
+
+abbrev pub decreases-loop-i : goal.decreases-loop-i
+decreases-loop-i l = l.count - l.i

@@ -1,0 +1,6 @@
+-- By cases on the mark.
+use borrow.Author.Rules.{rules}
+use Rattle.bucket_test.proofs.answering.wide_open.Goals as goal
+
+pub returns-in-Open : goal.returns-in-Open
+returns-in-Open c = rw c.in-Open.is c.is_wide.ensures

@@ -1,0 +1,101 @@
+-- After i turns the first i records and parts have had theirs; the others are as they were.
+use mathlib.Core.Path.{◌≡◌, refl, ap, ◌∙◌}
+use mathlib.Core.List.{List, ◌++◌}
+use Prim.Native.Nat.{ℕ, ◌+◌, ◌*◌, ◌-◌, ◌≤◌}
+use native.Mathlib.Omega.{arith}
+use lib.ListN.{length, take, drop, get_or}
+use Rattle.walk.specs.Units.{wide}
+use Rattle.plan.specs.Places.{over_to, join_to}
+use Rattle.plan.specs.Plan.{spending_of}
+use Rattle.plan.specs.Tables.{portion_of}
+use Rattle.bucket_test.specs.Words.{part_at}
+use Rattle.bucket_test.specs.Turn.{no_record, record_turn, part_turn}
+use Rattle.plan.specs.declared.Plan.{Plan}
+use Rattle.bucket_test.specs.declared.Threshold.{Threshold}
+use Rattle.plan.proofs.AcceptedLaws.{accepted}
+use Rattle.plan.proofs.SpendingLaws.{spent_is, may_spend}
+use Rattle.bucket_test.proofs.TurningLaws.{record_now, record_put, part_length, words_none, words_all, part_now_lem, part_put, may_turn, same_record, same_part}
+use borrow.Author.Rules.{rules}
+use Rattle.bucket_test.proofs.turning.turn_all.Invariants.{part_of}
+use Rattle.bucket_test.proofs.turning.turn_all.Goals.{After-portion_at-portion, After-spending_at-e}
+use Rattle.bucket_test.proofs.turning.turn_all.Goals as goal
+
+pub portion_at-portion-requires : goal.portion_at-portion-requires
+portion_at-portion-requires c = let s = (goal.at.portion_at-portion-requires c).Start in ((accepted s.args.t1).0 s.requires.0).points_sound.few
+
+pub loop-i-init : goal.loop-i-init
+unfolding over_to wide
+loop-i-init c =
+    let a = c.args in (
+      omega arith,
+      ((accepted a.p).0 c.requires.0).count_range.1,
+      c.requires.1,
+      refl,
+      refl,
+      words_none (part_of a.p a.records a.words.now a.n a.ones) a.words.now,
+    )
+
+-- the portion that the loop spends by
+portion : (c : After-portion_at-portion)
+    → let a = c.args in c.portion_at-portion.result ≡ portion_of a.p a.n
+portion c = c.portion_at-portion.ensures _ refl refl refl refl
+
+pub spending_at-e-requires : goal.spending_at-e-requires
+spending_at-e-requires c =
+    may_spend c.args.p ((accepted c.args.p).0 c.requires.0) c.loop-i.i c.args.n c.loop-i-test.true c.requires.2 _ (portion (goal.at.spending_at-e-requires c).After-portion_at-portion)
+
+-- the record and the part whose turn it is are as they were, and what may be spent is the plan's
+module _ (c : After-spending_at-e) where
+
+now-at : (c : After-spending_at-e)
+    → let a = c.args in
+    let l = c.loop-i in
+    (get_or l.next l.i no_record ≡ get_or a.records l.i no_record)
+    × (take (769 * l.i + 769 - 769 * l.i) (drop (769 * l.i) l.words) ≡ part_at l.i a.words.now)
+now-at c =
+    let a = c.args in
+    let l = c.loop-i in (
+      record_now (record_turn a.p a.words.now a.n a.ones) a.records l.next l.i l.inv.4 no_record,
+      part_now_lem (part_of a.p a.records a.words.now a.n a.ones) a.words.now l.i (omega arith) l.words l.inv.3 l.inv.5,
+    )
+
+spent-at : (c : After-spending_at-e) → let a = c.args in c.spending_at-e.result ≡ spending_of a.p c.loop-i.i a.n
+spent-at c = let a = c.args in spent_is a.p c.loop-i.i a.n _ _ (portion c.before) c.spending_at-e.ensures
+
+pub turn-requires : goal.turn-requires
+turn-requires c =
+    let at_after_spending_at_e = (goal.at.turn-requires c).After-spending_at-e in
+    let s = (goal.at.turn-requires c).Start at_after_spending_at_e in
+    let k = now-at at_after_spending_at_e in
+    let i = c.loop-i.i in
+    let l = c.loop-i-test.true in (
+      may_turn _ s.args.n s.args.ones (spent-at at_after_spending_at_e) k.0 k.1 (s.pre.3 i l),
+      ap length k.1 ∙ part_length s.args.words.now s.args.t1.count i s.pre.1 l,
+    )
+
+pub loop-i-preserved : goal.loop-i-preserved
+loop-i-preserved c =
+    let here = (goal.at.loop-i-preserved c).After-spending_at-e in
+    let a = c.args in
+    let l = c.loop-i in
+    let k = now-at here in
+    let e = spent-at here in
+    let done = c.turn.ensures in (
+      omega arith,
+      l.inv.1,
+      l.inv.2,
+      search rules,
+      record_put (record_turn a.p a.words.now a.n a.ones) a.records l.next l.i l.inv.4 no_record _
+          (same_record _ a.n a.ones e k.0 k.1 done.0),
+      part_put (part_of a.p a.records a.words.now a.n a.ones) a.words.now l.i (omega arith) l.words l.inv.3 l.inv.5 _
+          (same_part _ a.n a.ones e k.0 k.1 done.1),
+    )
+
+pub returns : goal.returns
+returns c =
+    let a = c.args in
+    let l = c.loop-i in
+    let ended : l.i ≡ a.p.count = omega arith in (
+      l.invariant.4 ∙ ap (λ (k : ℕ). over_to k (record_turn a.p a.words.now a.n a.ones) a.records) ended,
+      l.invariant.5 ∙ words_all (part_of a.p a.records a.words.now a.n a.ones) _ a.p.count l.i c.requires.1 ended,
+    )

@@ -1,0 +1,14 @@
+-- The entries before place j are put.
+use Prim.Native.Nat.{◌-◌}
+use native.Mathlib.Omega.{arith}
+use borrow.Author.Rules.{rules}
+use Rattle.stored_plan.specs.Form.{pair, bucket_entry_size, form_size, bucket_entries}
+use Rattle.little.proofs.EntryLaws.{PutTo, put_start, put_next, put_all}
+use Rattle.stored_plan.proofs.FormLaws.{pair-length}
+use Rattle.stored_plan.proofs.writing.write_buckets.Given as goal
+
+abbrev pub invariant-loop-j : goal.invariant-loop-j
+invariant-loop-j l = PutTo (pair 4 4 l.p.left l.p.right) bucket_entry_size (pair-length 4 4 l.p.left l.p.right) l.at l.b l.initial.bytes l.j l.bytes
+
+abbrev pub decreases-loop-j : goal.decreases-loop-j
+decreases-loop-j l = l.b - l.j
