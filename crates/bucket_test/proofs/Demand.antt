@@ -37,6 +37,13 @@ use Rattle.bucket_test.proofs.Refusing.{refused_stays}
 unfoldable pub due : ℕ → Bool → ℕ
 due d ended = first_refusal (unless (le? d 1) 9 ∷ unless (not ended) 10 ∷ [])
 
+-- .. where 1, 8 and 11 are none
+due_alone : (bit going : Bool) → first_refusal (0 ∷ unless true 8 ∷ unless bit 9 ∷ unless going 10 ∷ unless true 11 ∷ [])
+    ≡ first_refusal (unless bit 9 ∷ unless going 10 ∷ [])
+due_alone true true = refl
+due_alone true false = refl
+due_alone false going = refl
+
 -- ---- the three ways in which a draw is answered
 
 bit_is : (d : ℕ) → d ≤ 1 → (d ≡ 0) ⊎ (d ≡ 1)
@@ -108,7 +115,7 @@ module _ (p : Plan) (ok : Accepted p) (good : plan_refusal p ≡ 0) (words : Lis
   -- the refusal of a draw to a carried test is what is due
   refusal_is : (s : Draws) → History p s → (d : ℕ) → draw_refusal p (state_for p s) (words_for p s) d ≡ due d (is_ending (answer_of p (state_for p s)))
   unfolding draw_refusal_over due
-  refusal_is s h d = rw (good, words_fit_lem p ok s h, state_sound_lem p ok s h)
+  refusal_is s h d = rw (good, words_fit_lem p ok s h, state_sound_lem p ok s h) (due_alone (le? d 1) (not (is_ending (answer_of p (state_for p s)))))
 
   module _ (d : ℕ) (ds : List ℕ) (h : Held ds) where
     due_is : draw_refusal p (carried p words ds).state (carried p words ds).words d ≡ due d (has_ended p words ds)

@@ -20,7 +20,7 @@ use Rattle.bucket_test.proofs.judging.records_sound.Goals.{After-portion_at-port
 use Rattle.bucket_test.proofs.judging.records_sound.Goals as goal
 
 pub portion_at-portion-requires : goal.portion_at-portion-requires
-portion_at-portion-requires c = let s = (goal.at.portion_at-portion-requires c).Start in ((accepted s.args.t1).0 s.requires.0).points_sound.few
+portion_at-portion-requires c = ((accepted c.args.p).0 c.requires.0).points_sound.few
 
 pub loop-i-init : goal.loop-i-init
 unfolding wide
@@ -37,11 +37,10 @@ spending_at-e-requires c =
     may_spend c.args.p ((accepted c.args.p).0 c.requires.0) c.loop-i.i c.args.s.n c.loop-i-test.true c.requires.2 _ (portion (goal.at.spending_at-e-requires c).After-portion_at-portion)
 
 judged : (c : After-record_sound)
-    → 
-    let a = c.args in
+    → let a = c.args in
     c.record_sound.result ≡ passes a.p a.s a.words.now c.loop-i.i
 judged c =
-    let spent = spent_is c.args.p c.loop-i.i c.args.s.n _ _ (portion c.before.before.before.before.before.before.before) c.spending_at-e.ensures in
+    let spent = spent_is c.args.p c.loop-i.i c.args.s.n _ _ (c.portion_at-portion.ensures _ refl refl refl refl) c.spending_at-e.ensures in
     c.record_sound.ensures ∙ rw (spent, part_lent c.loop-i.i c.args.words.now)
 
 pub returns-then-not-record_sound : goal.returns-then-not-record_sound

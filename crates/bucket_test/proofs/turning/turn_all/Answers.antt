@@ -21,7 +21,7 @@ use Rattle.bucket_test.proofs.turning.turn_all.Goals.{After-portion_at-portion, 
 use Rattle.bucket_test.proofs.turning.turn_all.Goals as goal
 
 pub portion_at-portion-requires : goal.portion_at-portion-requires
-portion_at-portion-requires c = let s = (goal.at.portion_at-portion-requires c).Start in ((accepted s.args.t1).0 s.requires.0).points_sound.few
+portion_at-portion-requires c = ((accepted c.args.p).0 c.requires.0).points_sound.few
 
 pub loop-i-init : goal.loop-i-init
 unfolding over_to wide
@@ -44,9 +44,6 @@ pub spending_at-e-requires : goal.spending_at-e-requires
 spending_at-e-requires c =
     may_spend c.args.p ((accepted c.args.p).0 c.requires.0) c.loop-i.i c.args.n c.loop-i-test.true c.requires.2 _ (portion (goal.at.spending_at-e-requires c).After-portion_at-portion)
 
--- the record and the part whose turn it is are as they were, and what may be spent is the plan's
-module _ (c : After-spending_at-e) where
-
 now-at : (c : After-spending_at-e)
     → let a = c.args in
     let l = c.loop-i in
@@ -55,22 +52,21 @@ now-at : (c : After-spending_at-e)
 now-at c =
     let a = c.args in
     let l = c.loop-i in (
-      record_now (record_turn a.p a.words.now a.n a.ones) a.records l.next l.i l.inv.4 no_record,
-      part_now_lem (part_of a.p a.records a.words.now a.n a.ones) a.words.now l.i (omega arith) l.words l.inv.3 l.inv.5,
+      record_now (record_turn a.p a.words.now a.n a.ones) a.records l.next l.i l.invariant.4 no_record,
+      part_now_lem (part_of a.p a.records a.words.now a.n a.ones) a.words.now l.i (omega arith) l.words l.invariant.3 l.invariant.5,
     )
 
 spent-at : (c : After-spending_at-e) → let a = c.args in c.spending_at-e.result ≡ spending_of a.p c.loop-i.i a.n
-spent-at c = let a = c.args in spent_is a.p c.loop-i.i a.n _ _ (portion c.before) c.spending_at-e.ensures
+spent-at c = let a = c.args in spent_is a.p c.loop-i.i a.n _ _ (c.portion_at-portion.ensures _ refl refl refl refl) c.spending_at-e.ensures
 
 pub turn-requires : goal.turn-requires
 turn-requires c =
-    let at_after_spending_at_e = (goal.at.turn-requires c).After-spending_at-e in
-    let s = (goal.at.turn-requires c).Start at_after_spending_at_e in
-    let k = now-at at_after_spending_at_e in
+    let here = (goal.at.turn-requires c).After-spending_at-e in
+    let k = now-at here in
     let i = c.loop-i.i in
     let l = c.loop-i-test.true in (
-      may_turn _ s.args.n s.args.ones (spent-at at_after_spending_at_e) k.0 k.1 (s.pre.3 i l),
-      ap length k.1 ∙ part_length s.args.words.now s.args.t1.count i s.pre.1 l,
+      may_turn _ c.args.n c.args.ones (spent-at here) k.0 k.1 (c.requires.3 i l),
+      ap length k.1 ∙ part_length c.args.words.now c.args.p.count i c.requires.1 l,
     )
 
 pub loop-i-preserved : goal.loop-i-preserved
@@ -82,12 +78,12 @@ loop-i-preserved c =
     let e = spent-at here in
     let done = c.turn.ensures in (
       omega arith,
-      l.inv.1,
-      l.inv.2,
+      l.invariant.1,
+      l.invariant.2,
       search rules,
-      record_put (record_turn a.p a.words.now a.n a.ones) a.records l.next l.i l.inv.4 no_record _
+      record_put (record_turn a.p a.words.now a.n a.ones) a.records l.next l.i l.invariant.4 no_record _
           (same_record _ a.n a.ones e k.0 k.1 done.0),
-      part_put (part_of a.p a.records a.words.now a.n a.ones) a.words.now l.i (omega arith) l.words l.inv.3 l.inv.5 _
+      part_put (part_of a.p a.records a.words.now a.n a.ones) a.words.now l.i (omega arith) l.words l.invariant.3 l.invariant.5 _
           (same_part _ a.n a.ones e k.0 k.1 done.1),
     )
 
