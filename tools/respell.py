@@ -5,7 +5,7 @@ usage: tools/respell.py [FOLDER]
 
 It goes over every crate's .rt and .antt files below FOLDER (the current one if left out), after the kit's port.py has run there, and replaces each
 name of tools/respelled.tsv, a whole word at a time: a function, lemma or field in snake case, a dash only between two names. In comments a name is
-replaced only where it stands in backquotes. A second run changes nothing.
+replaced only where it stands in backquotes; functions of src/ keep their names. Run it once.
 """
 
 import os
@@ -39,6 +39,11 @@ def respelled(text, names):
     return "".join(out)
 
 
+def kept_in_rust(names):
+    """The table without names that a function of src/ could have: those keep theirs."""
+    return {old: new for old, new in names.items() if not re.fullmatch("[a-z0-9_]+", old)}
+
+
 def main(argv):
     top = argv[0] if argv else "."
     names = table()
@@ -50,7 +55,7 @@ def main(argv):
             path = os.path.join(folder, name)
             with open(path, encoding="utf-8") as f:
                 text = f.read()
-            new = respelled(text, names)
+            new = respelled(text, kept_in_rust(names) if name.endswith(".rt") else names)
             if new != text:
                 with open(path, "w", encoding="utf-8") as f:
                     f.write(new)

@@ -78,7 +78,7 @@ pub fn live_count(t: Threshold) -> usize
 }
 
 // Open boundaries count from 1 to 769 masses.
-pub(crate) fn count_holds(t: Threshold) -> bool
+pub(crate) fn count_fits(t: Threshold) -> bool
     ensures { result ≡ count_fits t.mark t.walked }
 {
     let m = t.mark;

@@ -20,7 +20,7 @@ use crate::form::{
     MASS_SIZE_FIELD, MASSES_FIELD, ONES_FIELD, OVER_FIELD, RECORD_OFFSET_FIELD, RECORD_SIZE,
     RECORD_SIZE_FIELD, ROUNDED_FIELD, SIZE_FIELD, STEP_FIELD, UNDER_FIELD, UPPER_FIELD,
 };
-use crate::marks::{count_holds, live_count, mark_known, mark_of};
+use crate::marks::{count_fits, live_count, mark_known, mark_of};
 use crate::signed::signed_of;
 use bucket_test::judging::numbers_sound;
 use bucket_test::starting::{no_walked, ten_of};
@@ -75,7 +75,7 @@ fn record_fits(bytes: &[u8], at: usize) -> bool
         return false;
     }
     let t = record_from(bytes, at);
-    count_holds(t)
+    count_fits(t)
 }
 
 // .. each of so many.

@@ -1,0 +1,90 @@
+-- The thresholds before place i pass.
+use mathlib.Core.Path.{◌≡◌, ap, ◌∙◌}
+use mathlib.Core.Bool.{Bool, false}
+use mathlib.Core.List.{List}
+use Prim.Native.Nat.{ℕ, ◌+◌, ◌*◌, ◌-◌, ◌≤◌}
+use native.Mathlib.Omega.{arith}
+use lib.ListN.{length, get_or}
+use Rattle.walk.specs.Units.{wide}
+use Rattle.walk.specs.Spending.{portioned}
+use Rattle.walk.specs.declared.Portion.{Portion}
+use Rattle.plan.proofs.PlaceLaws.{passed, failed, Sought, sought_none, sought_next, sought_here, sought_nowhere}
+use Rattle.bucket_test.specs.Turn.{record_sound}
+use Rattle.bucket_test.specs.declared.Threshold.{Threshold}
+use Rattle.saved_test.specs.Form.{record_offset, form_size, live_count}
+use Rattle.saved_test.specs.Reading.{record_in, mass_offset, part_in}
+use Rattle.saved_test.proofs.ReadingLaws.{offset_first, held_few, held_inside, held_next, held_sound}
+use borrow.Author.Rules.{rules}
+use Rattle.saved_test.proofs.reading.parts_sound.Invariants.{passes}
+use Rattle.saved_test.proofs.reading.parts_sound.Goals.{After-record_from-t, After-record_sound_in}
+use Rattle.saved_test.proofs.reading.parts_sound.Goals as goal
+
+pub loop-i-init : goal.loop-i-init
+loop-i-init c = (offset_first _ _, sought_none false _)
+
+pub record_from-t-requires : goal.record_from-t-requires
+unfolding form_size record_offset
+record_from-t-requires c = omega (arith, c.requires.4.sized, c.loop-i-test.true)
+
+-- what is known of the threshold at place i
+module _ (c : After-record_from-t) where
+
+  abbrev i : ℕ
+  i = c.loop-i.i
+
+  is : c.record_from-t.result ≡ record_in c.args.bytes.now i
+  unfolding record_offset
+  is = c.record_from-t.ensures
+
+  live : live_count c.record_from-t.result ≡ live_count (record_in c.args.bytes.now i)
+  live = ap (λ (t : Threshold). live_count t) is
+
+  lent : (live_count c.record_from-t.result ≤ wide)
+      × (c.loop-i.at + 8 * live_count c.record_from-t.result ≤ length c.args.bytes.now)
+      × (c.loop-i.at + 8 * live_count c.record_from-t.result ≡ mass_offset c.args.bytes.now c.args.count (i + 1))
+  lent =
+      let l = c.loop-i in
+      let h = c.loop-i-test.true in
+      (
+        held_few _ _ c.requires.4 i h _ l.at live l.invariant.0,
+        held_inside _ _ c.requires.4 i h _ l.at live l.invariant.0,
+        held_next _ _ c.requires.4 i h _ l.at live l.invariant.0,
+      )
+
+pub spending_at-e-requires : goal.spending_at-e-requires
+spending_at-e-requires c =
+    (c.requires.1 (i (goal.at.spending_at-e-requires c).After-record_from-t) c.loop-i-test.true, c.requires.2, c.requires.3)
+
+pub record_sound_in-requires : goal.record_sound_in-requires
+record_sound_in-requires c = let b = (goal.at.record_sound_in-requires c).After-record_from-t in ((lent b).0, (lent b).1)
+
+judged : (c : After-record_sound_in)
+    → let a = c.args in
+    c.record_sound_in.result ≡ passes a.allowances.now a.count a.portion a.bytes.now a.n a.ones c.loop-i.i
+unfolding record_offset
+judged c =
+    let l = c.loop-i in
+    let is : c.record_from-t.result ≡ record_in c.args.bytes.now l.i = c.record_from-t.ensures in
+    c.record_sound_in.ensures
+    ∙ rw c.spending_at-e.ensures
+    (held_sound _ _ c.requires.4 c.loop-i.i c.loop-i-test.true _ l.at (ap (λ (t : Threshold). live_count t) is) l.invariant.0 _ is _ _ _)
+
+pub returns-then-not-record_sound_in : goal.returns-then-not-record_sound_in
+returns-then-not-record_sound_in c =
+    sought_here false _ c.loop-i.invariant.1 c.loop-i-test.true (failed (judged (goal.at.returns-then-not-record_sound_in c).After-record_sound_in) c.if-not-record_sound_in.true-raw)
+
+pub overflow_mul-at-in-loop-i : goal.overflow_mul-at-in-loop-i
+overflow_mul-at-in-loop-i c = let k = lent (goal.at.overflow_mul-at-in-loop-i c).After-record_from-t in omega (arith, k.0, c.live_count.ensures.0)
+
+pub overflow_add-at-in-loop-i : goal.overflow_add-at-in-loop-i
+overflow_add-at-in-loop-i c = let k = lent (goal.at.overflow_add-at-in-loop-i c).After-record_from-t in omega (arith, k.1, c.live_count.ensures.0)
+
+pub loop-i-preserved : goal.loop-i-preserved
+loop-i-preserved c =
+    let l = c.loop-i in (
+      rw c.live_count.ensures.0 (lent (goal.at.loop-i-preserved c).After-record_from-t).2,
+      sought_next false _ l.invariant.1 c.loop-i-test.true (passed (judged (goal.at.loop-i-preserved c).After-record_sound_in) c.if-not-record_sound_in.false-raw),
+    )
+
+pub returns : goal.returns
+returns c = sought_nowhere false _ c.loop-i.invariant.1 c.loop-i-test.false

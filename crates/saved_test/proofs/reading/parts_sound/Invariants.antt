@@ -1,0 +1,30 @@
+-- The thresholds before place i pass.
+use mathlib.Core.Path.{◌≡◌, ap, ◌∙◌}
+use mathlib.Core.Bool.{Bool, false}
+use mathlib.Core.List.{List}
+use Prim.Native.Nat.{ℕ, ◌+◌, ◌*◌, ◌-◌, ◌≤◌}
+use native.Mathlib.Omega.{arith}
+use lib.ListN.{length, get_or}
+use Rattle.walk.specs.Units.{wide}
+use Rattle.walk.specs.Spending.{portioned}
+use Rattle.walk.specs.declared.Portion.{Portion}
+use Rattle.plan.proofs.PlaceLaws.{passed, failed, Sought, sought_none, sought_next, sought_here, sought_nowhere}
+use Rattle.bucket_test.specs.Turn.{record_sound}
+use Rattle.bucket_test.specs.declared.Threshold.{Threshold}
+use Rattle.saved_test.specs.Form.{record_offset, form_size, live_count}
+use Rattle.saved_test.specs.Reading.{record_in, mass_offset, part_in}
+use Rattle.saved_test.proofs.ReadingLaws.{offset_first, held_few, held_inside, held_next, held_sound}
+use borrow.Author.Rules.{rules}
+use Rattle.saved_test.proofs.reading.parts_sound.Given as goal
+
+-- the threshold at place i passes
+abbrev pub passes : List ℕ → ℕ → Portion → List ℕ → ℕ → ℕ → ℕ → Bool
+passes allowances count portion bytes n ones i =
+    record_sound (portioned portion (get_or allowances i 0)) n ones (record_in bytes i).mark (record_in bytes i) (part_in bytes count i)
+
+abbrev pub invariant-loop-i : goal.invariant-loop-i
+invariant-loop-i l =
+    (l.at ≡ mass_offset l.bytes l.count l.i) × Sought false (passes l.allowances l.count l.portion l.bytes l.n l.ones) l.count l.i
+
+abbrev pub decreases-loop-i : goal.decreases-loop-i
+decreases-loop-i l = l.count - l.i

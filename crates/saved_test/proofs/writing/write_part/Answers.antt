@@ -1,0 +1,30 @@
+-- The masses before place j are put.
+use Rattle.little.specs.Little.{to_le}
+use Rattle.little.proofs.LittleLaws.{to_length}
+use Rattle.little.proofs.EntryLaws.{PutTo, put_start, put_next, put_all}
+use Rattle.saved_test.specs.Form.{mass_size, mass_bytes}
+use lib.ListN.{get_or}
+use native.Mathlib.Omega.{arith}
+use mathlib.Core.List.{List}
+use Prim.Native.Nat.{ℕ, ◌-◌}
+use borrow.Author.Rules.{rules}
+use Rattle.saved_test.proofs.writing.write_part.Invariants.{entry}
+use Rattle.saved_test.proofs.writing.write_part.Goals as goal
+
+pub loop-j-init : goal.loop-j-init
+loop-j-init c = let a = c.args in put_start (entry a.part.now) mass_size (λ k. to_length mass_size (get_or a.part.now k 0)) a.at a.count a.bytes.now
+
+pub loop-j-preserved : goal.loop-j-preserved
+loop-j-preserved c =
+    let l = c.loop-j in
+    let a = c.args in
+    put_next (entry a.part.now) mass_size (λ k. to_length mass_size (get_or a.part.now k 0)) a.at a.count a.bytes.now l.j l.bytes _ l.invariant
+    c.loop-j-test.true (search rules) c.write_le.ensures (omega arith)
+
+pub returns : goal.returns
+unfolding mass_bytes
+returns c =
+    let l = c.loop-j in
+    let a = c.args in
+    put_all (entry a.part.now) mass_size (λ k. to_length mass_size (get_or a.part.now k 0)) a.at a.count a.bytes.now l.j l.bytes l.invariant
+    (omega arith)
