@@ -1,0 +1,40 @@
+-- After i places s is how the first i records stand; its high never passes a million, as `seen` asks.
+use mathlib.Core.Path.{◌≡◌}
+use Prim.Native.Nat.{◌-◌, ◌≤◌}
+use native.Mathlib.Omega.{arith}
+use borrow.Author.Rules.{rules}
+use Rattle.walk.specs.Units.{million}
+use Rattle.saved_test.specs.Form.{record_offset}
+use Rattle.saved_test.specs.Reading.{record_in}
+use Rattle.calls.specs.Inner.{Seen}
+use Rattle.calls.proofs.TurnLaws.{seen_none, seen_next}
+use Rattle.calls.proofs.stands.standing_in.Goals as goal
+
+pub loop-i-init : goal.loop-i-init
+loop-i-init c = let e = c.unseen-s.ensures in (omega arith, seen_none _ _ _ e, rw e (omega arith))
+
+pub record_from-t-requires : goal.record_from-t-requires
+unfolding record_offset
+record_from-t-requires c = omega (arith, c.requires.1, c.loop-i-test.true)
+
+pub bounds-thresholds-i : goal.bounds-thresholds-i
+bounds-thresholds-i c = omega (arith, c.requires.0, c.loop-i-test.true)
+
+pub seen-s-requires : goal.seen-s-requires
+seen-s-requires c = c.loop-i.invariant.2
+
+pub loop-i-preserved : goal.loop-i-preserved
+unfolding record_offset
+loop-i-preserved c =
+    let l = c.loop-i in
+    let e = c.seen-s.ensures in (
+      omega (arith, c.loop-i-test.true),
+      seen_next _ (record_in _) l.i l.s _ _ c.record_from-t.ensures l.invariant.1 e.0 e.1 e.2,
+      omega (arith, e.1, l.invariant.2),
+    )
+
+pub returns : goal.returns
+returns c =
+    let l = c.loop-i in
+    let e : l.i ≡ c.args.count = omega (arith, l.invariant.0, c.loop-i-test.false) in
+    rw e at l.invariant.1

@@ -1,0 +1,12 @@
+-- A loop that copies.
+use Prim.Native.Nat.{◌-◌}
+use Rattle.host.specs.States.{record_in}
+use Rattle.host.proofs.Copies.{Copied, copied_none, copied_more, copied_all}
+use borrow.Author.Rules.{rules}
+use Rattle.host.proofs.states.records_in.Given as goal
+
+abbrev pub invariant-loop-i : goal.invariant-loop-i
+invariant-loop-i l = Copied record_in 10 l.i l.rs l.initial.records l.records
+
+abbrev pub decreases-loop-i : goal.decreases-loop-i
+decreases-loop-i l = 10 - l.i

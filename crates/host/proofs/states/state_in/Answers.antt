@@ -1,0 +1,7 @@
+-- The counts and the ten records.
+use mathlib.Core.Path.{refl}
+use borrow.Author.Rules.{rules}
+use Rattle.host.proofs.states.state_in.Goals as goal
+
+pub returns : goal.returns
+returns c = rw c.records_in-records.ensures refl
