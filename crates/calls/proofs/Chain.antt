@@ -1,13 +1,11 @@
 -- The chain of calls follows the carried test (specs/Chain).
 use mathlib.Core.Path.{◌≡◌, refl, sym, ap, ◌∙◌}
-use mathlib.Core.Bool.{Bool, true, false}
 use mathlib.Core.Logic.{◌⊎◌, inl, inr, ⊎_elim}
 use mathlib.Core.List.{List, [], ◌∷◌}
 use Prim.Native.Nat.{ℕ, zero, suc, ◌*◌, ◌≤◌, ◌<◌}
 use native.Mathlib.Omega.{arith}
 use lib.ListN.{length, drop, length-replicate}
 use lib.Seq.{take_at}
-use Rattle.walk.specs.Numbers.{lt?}
 use Rattle.walk.specs.Units.{wide}
 use Rattle.walk.proofs.Tests.{le?_complete, le?_fails}
 use Rattle.plan.specs.Places.{eq?, first_refusal}
@@ -17,14 +15,14 @@ use Rattle.plan.proofs.PlaceLaws.{le_or_lt, eq?_complete, eq?_fails}
 use Rattle.plan.proofs.AcceptedLaws.{accepted}
 use Rattle.bucket_choice.specs.Choice.{chosen_bucket}
 use Rattle.bucket_test.specs.Turn.{record_at}
-use Rattle.bucket_test.specs.Answers.{low_of, high_of, any_wide, first_that_fits, answer_of, refusal_of}
+use Rattle.bucket_test.specs.Answers.{answer_of, refusal_of}
 use Rattle.bucket_test.specs.Draw.{Outcome, start_state, begun, draw_refusal, next_state, drawn_by, drawn}
 use Rattle.bucket_test.specs.Carried.{carried_over, carried, has_ended}
 use Rattle.bucket_test.specs.Demand3.{AnswersDraw, Answered}
 use Rattle.bucket_test.specs.declared.State.{State}
 use Rattle.bucket_test.specs.declared.Answer.{Answer}
 use Rattle.bucket_test.specs.declared.Answer.TheVariants.{Open, Decided, Crossed, Wide, Spent, Refused}
-use Rattle.bucket_test.proofs.AnsweringLaws.{rule_with, rule_answers}
+use Rattle.bucket_test.proofs.AnsweringLaws.{rule_answers}
 use Rattle.bucket_test.proofs.PartLaws.{words_say}
 use Rattle.bucket_test.proofs.DrawingLaws.{begun_0, drawn_by_lem}
 use Rattle.bucket_test.proofs.Demand.{demand_3}

@@ -1,5 +1,5 @@
 -- The longest form fits, whatever the draw leaves (specs/Room).
-use mathlib.Core.Path.{◌≡◌, refl, sym, ap, ◌∙◌}
+use mathlib.Core.Path.{◌≡◌, refl}
 use mathlib.Core.Bool.{Bool, true, false, not}
 use mathlib.Core.List.{List, [], ◌∷◌}
 use Prim.Native.Nat.{ℕ, zero, suc, ◌≤◌}
@@ -18,7 +18,7 @@ use Rattle.bucket_test.specs.declared.State.{State}
 use Rattle.bucket_test.proofs.DrawingLaws.{drawn_by_lem}
 use Rattle.bucket_test.proofs.OneStep.{drawn_says}
 use Rattle.stored_plan.specs.Reading.{decoded}
-use Rattle.saved_test.specs.Form.{form_limit, record_offset, saved_size}
+use Rattle.saved_test.specs.Form.{form_limit, saved_size}
 use Rattle.saved_test.specs.Reading.{state_in, words_in, form_fits}
 use Rattle.calls.specs.Calls.{called_begin, called_draw}
 use Rattle.calls.specs.Room.{RoomTheorem}

@@ -3,7 +3,7 @@ use mathlib.Core.Path.{◌≡◌, refl, sym}
 use mathlib.Core.Bool.{Bool, true, false}
 use mathlib.Core.List.{List, [], ◌∷◌}
 use mathlib.Core.Logic.{◌↔◌}
-use Prim.Native.Nat.{ℕ, zero, suc, ◌≤◌, ◌<◌}
+use Prim.Native.Nat.{ℕ, zero, suc, ◌≤◌}
 use native.Mathlib.Omega.{arith}
 use lib.ListN.{length}
 use Rattle.walk.specs.Units.{wide}
@@ -11,7 +11,6 @@ use Rattle.walk.specs.declared.Walked.{Walked}
 use Rattle.walk.proofs.Tests.{clash}
 use Rattle.plan.specs.Places.{unless, first_refusal}
 use Rattle.plan.specs.Plan.{plan_refusal}
-use Rattle.plan.specs.declared.Plan.{Plan}
 use Rattle.plan.proofs.PlaceLaws.{both, either, eq_reads, all_say, within_reads, first_some, none_both, none_says, last_says, number_absent, number_here, number-after}
 use Rattle.plan.proofs.AcceptedLaws.{plan_other}
 use Rattle.bucket_test.specs.Words.{words_fit}

@@ -7,8 +7,6 @@ use native.Mathlib.Numerals.{add-one}
 use native.Mathlib.Omega.{arith}
 use Rattle.walk.specs.Units.{horizon_limit}
 use Rattle.plan.specs.Places.{eq?}
-use Rattle.plan.specs.Plan.{plan_refusal, Accepted}
-use Rattle.plan.specs.declared.Plan.{Plan}
 use Rattle.plan.proofs.PlaceLaws.{passed, failed}
 use Rattle.plan.specs.Tables.{portion_of}
 use Rattle.plan.proofs.AcceptedLaws.{accepted}
@@ -24,7 +22,6 @@ use Rattle.saved_test.proofs.ReadingLaws.{form_long, form_held}
 use Rattle.calls.specs.Inner.{Ready, Took}
 use Rattle.calls.proofs.CallLaws.{rule_small, hands_15, hands_9, hands_10, hands_11, hands_refused, took_early, answer_after, hands_answer}
 use Rattle.calls.proofs.Taking.{in-time}
-use borrow.Author.Rules.{rules}
 use Rattle.calls.proofs.draw_on.Goals.{After-first_that_fits-answer, After-has_ended, After-portion_by_delay-portion, After-state_sound_in, After-take_in-arg-1, Else-not-form_fits, Else-not-state_sound_in}
 use Rattle.calls.proofs.draw_on.Goals as goal
 
@@ -92,7 +89,6 @@ returns-then-not-state_sound_in c =
 
 -- where nothing but 12 can refuse the draw
 module _ (c : Else-not-state_sound_in) where
-
   goes_on : is_ending (answer_of (plan_from c.args.head c.args.thresholds.now c.args.allowances.now c.args.left.now c.args.right.now) (state_in (plan_from c.args.head c.args.thresholds.now c.args.allowances.now c.args.left.now c.args.right.now) c.args.saved.now)) ≡ false
   unfolding eq? state_in
   goes_on =

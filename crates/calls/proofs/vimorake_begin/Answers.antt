@@ -1,5 +1,4 @@
 -- The refusal of the plan bytes, else the call under their plan.
-use borrow.Author.Rules.{rules}
 use Rattle.calls.proofs.BeginLaws.{plan_good, begin_some, begin_none}
 use Rattle.calls.proofs.vimorake_begin.Goals as goal
 

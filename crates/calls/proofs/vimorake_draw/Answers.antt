@@ -1,5 +1,4 @@
 -- The plan's refusal, or the draw under it.
-use borrow.Author.Rules.{rules}
 use Rattle.calls.proofs.BeginLaws.{tables_good, draw_some, draw_none}
 use Rattle.calls.proofs.vimorake_draw.Goals as goal
 

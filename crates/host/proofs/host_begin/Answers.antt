@@ -1,5 +1,4 @@
 -- The outcome of the beginning.
-use borrow.Author.Rules.{rules}
 use Rattle.host.proofs.host_begin.Goals as goal
 
 pub returns : goal.returns

@@ -1,5 +1,4 @@
 -- The outcome of the draw.
-use borrow.Author.Rules.{rules}
 use Rattle.host.proofs.host_draw.Goals as goal
 
 pub returns : goal.returns

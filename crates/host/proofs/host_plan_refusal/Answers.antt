@@ -1,5 +1,4 @@
 -- The plan that came in.
-use borrow.Author.Rules.{rules}
 use Rattle.host.proofs.host_plan_refusal.Goals as goal
 
 pub returns : goal.returns

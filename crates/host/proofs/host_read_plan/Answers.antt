@@ -1,5 +1,4 @@
 -- The refusal and the plan that were read.
-use borrow.Author.Rules.{rules}
 use Rattle.host.proofs.host_read_plan.Goals as goal
 
 pub returns : goal.returns

@@ -1,5 +1,4 @@
 -- The test that was read.
-use borrow.Author.Rules.{rules}
 use Rattle.host.proofs.host_read_test.Goals as goal
 
 pub returns : goal.returns

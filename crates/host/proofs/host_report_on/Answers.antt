@@ -1,5 +1,4 @@
 -- The answer with its interval.
-use borrow.Author.Rules.{rules}
 use Rattle.host.proofs.host_report_on.Goals as goal
 
 pub returns : goal.returns

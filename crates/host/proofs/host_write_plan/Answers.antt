@@ -1,7 +1,6 @@
 -- What was written, by its fields.
 use mathlib.Core.Path.{ap}
 use Rattle.stored_plan.specs.declared.Written.{Written}
-use borrow.Author.Rules.{rules}
 use Rattle.host.proofs.host_write_plan.Goals as goal
 
 pub returns : goal.returns

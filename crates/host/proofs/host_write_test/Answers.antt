@@ -1,7 +1,6 @@
 -- What was written, by its fields.
 use mathlib.Core.Path.{ap}
 use Rattle.saved_test.specs.declared.Saved.{Saved}
-use borrow.Author.Rules.{rules}
 use Rattle.host.proofs.host_write_test.Goals as goal
 
 pub returns : goal.returns

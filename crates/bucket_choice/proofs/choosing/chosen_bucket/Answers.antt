@@ -1,18 +1,14 @@
 -- Each turn looks at one place more, in plan order.
 use mathlib.Core.Path.{◌≡◌, sym, ap, ◌∙◌}
 use mathlib.Core.Bool.{true, false}
-use mathlib.Core.List.{List, []}
-use mathlib.Core.Logic.{⊎_elim}
-use Prim.Native.Nat.{ℕ, ◌-◌, ◌≤◌}
 use native.Mathlib.Numerals.{add-one}
 use native.Mathlib.Omega.{arith}
 use borrow.Author.Rules.{rules}
 use lib.ListN.{get_or}
-use Rattle.plan.specs.declared.Plan.{Plan}
 use Rattle.bucket_choice.specs.Choice.{contains}
 use Rattle.bucket_choice.specs.Chosen.{Contains}
 use Rattle.bucket_choice.proofs.ChoiceLaws.{contains_says, chosen_cong}
-use Rattle.bucket_choice.proofs.BestLaws.{Held, held_none, held_all, held_contains, held_more, held_first, held_now, held_still}
+use Rattle.bucket_choice.proofs.BestLaws.{held_none, held_all, held_contains, held_more, held_first, held_now, held_still}
 use Rattle.bucket_choice.proofs.choosing.chosen_bucket.Invariants.{with_buckets}
 use Rattle.bucket_choice.proofs.choosing.chosen_bucket.Goals.{After-contains, Else-place-buckets, then-contains+then-place-buckets, then-contains+else-place-buckets+then-width_of, then-contains+else-place-buckets+else-width_of, else-contains}
 use Rattle.bucket_choice.proofs.choosing.chosen_bucket.Goals as goal
@@ -76,16 +72,16 @@ loop-j-preserved c =
       omega (arith, c.loop-j-test.true),
       rw (add-one l.j)
           (elim c.if-contains.branch [
-            then-contains+then-place-buckets w ↦ rw w.place-is (held_first l.j l.invariant.1 (seen w.if-contains.true) w.if-place-buckets.true)
-          | then-contains+else-place-buckets+then-width_of w ↦
-              rw w.place-is
-              (held_now l.j l.invariant.1 (seen w.if-contains.true) w.if-place-buckets.false
-              (omega (arith, w.width_of.ensures, w.width_of-else-place-buckets.ensures, w.if-width_of.true)))
-          | then-contains+else-place-buckets+else-width_of w ↦
-              rw w.place-is
-              (held_still l.j l.invariant.1 w.if-place-buckets.false
-              (omega (arith, w.width_of.ensures, w.width_of-else-place-buckets.ensures, w.if-width_of.false)))
-          | else-contains w ↦ rw w.place-is (held_more l.j l.invariant.1 (miss here w.if-contains.false))
+            | then-contains+then-place-buckets w ↦ rw w.place-is (held_first l.j l.invariant.1 (seen w.if-contains.true) w.if-place-buckets.true)
+            | then-contains+else-place-buckets+then-width_of w ↦
+                rw w.place-is
+                (held_now l.j l.invariant.1 (seen w.if-contains.true) w.if-place-buckets.false
+                (omega (arith, w.width_of.ensures, w.width_of-else-place-buckets.ensures, w.if-width_of.true)))
+            | then-contains+else-place-buckets+else-width_of w ↦
+                rw w.place-is
+                (held_still l.j l.invariant.1 w.if-place-buckets.false
+                (omega (arith, w.width_of.ensures, w.width_of-else-place-buckets.ensures, w.if-width_of.false)))
+            | else-contains w ↦ rw w.place-is (held_more l.j l.invariant.1 (miss here w.if-contains.false))
           ]),
     )
 

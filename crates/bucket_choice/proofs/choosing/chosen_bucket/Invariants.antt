@@ -1,18 +1,8 @@
 -- Each turn looks at one place more, in plan order.
-use mathlib.Core.Path.{◌≡◌, sym, ap, ◌∙◌}
-use mathlib.Core.Bool.{true, false}
 use mathlib.Core.List.{List, []}
-use mathlib.Core.Logic.{⊎_elim}
 use Prim.Native.Nat.{ℕ, ◌-◌, ◌≤◌}
-use native.Mathlib.Numerals.{add-one}
-use native.Mathlib.Omega.{arith}
-use borrow.Author.Rules.{rules}
-use lib.ListN.{get_or}
 use Rattle.plan.specs.declared.Plan.{Plan}
-use Rattle.bucket_choice.specs.Choice.{contains}
-use Rattle.bucket_choice.specs.Chosen.{Contains}
-use Rattle.bucket_choice.proofs.ChoiceLaws.{contains_says, chosen_cong}
-use Rattle.bucket_choice.proofs.BestLaws.{Held, held_none, held_all, held_contains, held_more, held_first, held_now, held_still}
+use Rattle.bucket_choice.proofs.BestLaws.{Held}
 use Rattle.bucket_choice.proofs.choosing.chosen_bucket.Given as goal
 
 -- one plan with these buckets: the choice is the same under all of them

@@ -1,6 +1,5 @@
 -- The rule of the state's interval, of what is wide and of the horizon.
 use mathlib.Core.Path.{refl, ◌∙◌}
-use borrow.Author.Rules.{rules}
 use Rattle.plan.specs.Places.{eq?}
 use Rattle.bucket_test.proofs.AnsweringLaws.{rule_of}
 use Rattle.bucket_test.proofs.answering.answer_of.Goals as goal

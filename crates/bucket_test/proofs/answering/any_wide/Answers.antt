@@ -1,15 +1,9 @@
 -- Of the first i open thresholds none is wide.
 use mathlib.Core.Path.{sym, ◌∙◌}
-use mathlib.Core.Bool.{Bool, true}
-use mathlib.Core.List.{List}
-use Prim.Native.Nat.{ℕ, ◌-◌}
+use mathlib.Core.Bool.{true}
 use native.Mathlib.Omega.{arith}
-use borrow.Author.Rules.{rules}
-use lib.ListN.{get_or}
-use Rattle.bucket_test.specs.Turn.{no_record, wide_open}
 use Rattle.bucket_test.specs.Answers.{any_wide}
-use Rattle.bucket_test.specs.declared.Threshold.{Threshold}
-use Rattle.plan.proofs.PlaceLaws.{Sought, sought_none, sought_next, sought_here, sought_nowhere}
+use Rattle.plan.proofs.PlaceLaws.{sought_none, sought_next, sought_here, sought_nowhere}
 use Rattle.bucket_test.proofs.answering.any_wide.Goals as goal
 
 pub loop-i-init : goal.loop-i-init

@@ -1,5 +1,4 @@
 -- Each return is one case of the rule.
-use borrow.Author.Rules.{rules}
 use Rattle.bucket_test.proofs.AnsweringLaws.{crossed, decided, wide, spent, open_yet}
 use Rattle.bucket_test.proofs.answering.first_that_fits.Goals as goal
 

@@ -1,17 +1,10 @@
 -- After i places the interval is that of the first i thresholds.
 use mathlib.Core.Path.{◌≡◌, refl, ap, ◌∙◌}
-use mathlib.Core.List.{List}
-use Prim.Native.Nat.{ℕ, ◌-◌, ◌≤◌}
+use Prim.Native.Nat.{ℕ}
 use native.Mathlib.Omega.{arith}
-use borrow.Author.Rules.{rules}
-use lib.ListN.{get_or}
-use Rattle.walk.specs.Numbers.{only, choose}
 use Rattle.walk.specs.Units.{million}
-use Rattle.walk.specs.Strings.{Upper, Lower, is_on}
 use Rattle.plan.specs.Places.{largest_to, smallest_to}
-use Rattle.bucket_test.specs.Turn.{no_record}
 use Rattle.bucket_test.specs.Answers.{low_of, high_of}
-use Rattle.bucket_test.specs.declared.Threshold.{Threshold}
 use Rattle.bucket_test.proofs.AnsweringLaws.{largest_more, smallest_more}
 use Rattle.bucket_test.proofs.answering.interval_of.Invariants.{above_at, at_most_at}
 use Rattle.bucket_test.proofs.answering.interval_of.Goals as goal

@@ -1,6 +1,5 @@
 -- By cases on the mark; the larger or the smaller of two is what the test leaves.
 use native.Mathlib.Omega.{arith}
-use borrow.Author.Rules.{rules}
 use Rattle.bucket_test.proofs.answering.narrowed.Goals as goal
 
 pub returns-in-Open : goal.returns-in-Open

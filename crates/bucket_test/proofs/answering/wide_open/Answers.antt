@@ -1,5 +1,4 @@
 -- By cases on the mark.
-use borrow.Author.Rules.{rules}
 use Rattle.bucket_test.proofs.answering.wide_open.Goals as goal
 
 pub returns-in-Open : goal.returns-in-Open

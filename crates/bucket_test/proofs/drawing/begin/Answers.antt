@@ -9,7 +9,6 @@ use Rattle.bucket_test.specs.Turn.{start_record}
 use Rattle.bucket_test.specs.Draw.{start_state, start_words, no_state}
 use Rattle.bucket_test.proofs.PartLaws.{words_say}
 use Rattle.bucket_test.proofs.DrawingLaws.{places, hands, begun-plan, begun_8, begun_0}
-use borrow.Author.Rules.{rules}
 use Rattle.bucket_test.proofs.drawing.begin.Goals.{Else-bad-gt0, Else-not-words_fit}
 use Rattle.bucket_test.proofs.drawing.begin.Goals as goal
 

@@ -12,7 +12,6 @@ use Rattle.bucket_test.specs.Draw.{state_sound}
 use Rattle.plan.proofs.PlaceLaws.{passed, failed}
 use Rattle.bucket_test.proofs.PartLaws.{words_say}
 use Rattle.bucket_test.proofs.DrawingLaws.{places, hands, drawn-plan, drawn_8, drawn_9, drawn_10, drawn_11, drawn_0}
-use borrow.Author.Rules.{rules}
 use Rattle.bucket_test.proofs.drawing.draw.Goals.{After-is_ending, Else-bad-gt0, Else-is_ending, Else-not-state_sound, Else-not-words_fit}
 use Rattle.bucket_test.proofs.drawing.draw.Goals as goal
 

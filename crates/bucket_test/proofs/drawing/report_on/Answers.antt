@@ -3,7 +3,6 @@ use mathlib.Core.Path.{◌≡◌, sym}
 use native.Mathlib.Omega.{arith}
 use Rattle.plan.specs.Plan.{plan_refusal}
 use Rattle.bucket_test.proofs.DrawingLaws.{places, report-plan, report_0}
-use borrow.Author.Rules.{rules}
 use Rattle.bucket_test.proofs.drawing.report_on.Goals.{Else-bad-gt0}
 use Rattle.bucket_test.proofs.drawing.report_on.Goals as goal
 

@@ -4,7 +4,6 @@ use native.Mathlib.Numerals.{add-one}
 use native.Mathlib.Omega.{arith}
 use Rattle.walk.specs.Units.{horizon_limit}
 use Rattle.bucket_test.proofs.DrawingLaws.{ones_fit, early, all_may_turn, next_state_lem, next_words_lem}
-use borrow.Author.Rules.{rules}
 use Rattle.bucket_test.proofs.drawing.take_one.Goals.{Start}
 use Rattle.bucket_test.proofs.drawing.take_one.Goals as goal
 

@@ -1,6 +1,5 @@
 -- The test is the equation.
 use mathlib.Core.Path.{refl}
-use borrow.Author.Rules.{rules}
 use Rattle.walk.specs.Units.{wide}
 use Rattle.plan.specs.Places.{eq?}
 use Rattle.bucket_test.proofs.drawing.words_fit.Goals as goal

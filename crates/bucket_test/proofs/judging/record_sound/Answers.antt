@@ -1,14 +1,9 @@
 -- By cases on the mark; sound boundaries say how many words are live.
-use mathlib.Core.Path.{◌≡◌, refl, sym, ◌∙◌}
-use mathlib.Core.Bool.{true, false}
-use mathlib.Core.List.{List}
-use Prim.Native.Nat.{ℕ}
+use mathlib.Core.Path.{◌≡◌, sym, ◌∙◌}
+use mathlib.Core.Bool.{true}
 use native.Mathlib.Omega.{arith}
-use borrow.Author.Rules.{rules}
 use borrow.Author.Tests.{not-true, not-false}
 use Rattle.walk.specs.Soundness.{rounded_fits}
-use Rattle.walk.specs.declared.Mark.{Mark}
-use Rattle.walk.specs.declared.Mark.TheVariants.{Open, Above, AtMost}
 use Rattle.walk.proofs.Tests.{and_true}
 use Rattle.walk.proofs.SoundnessLaws.{boundaries_say}
 use Rattle.bucket_test.specs.Turn.{numbers_sound}

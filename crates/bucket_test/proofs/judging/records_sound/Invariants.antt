@@ -1,20 +1,13 @@
 -- The records before place i pass.
-use mathlib.Core.Path.{◌≡◌, refl, ◌∙◌}
+use mathlib.Core.Path.{◌≡◌}
 use mathlib.Core.Bool.{Bool, false}
 use mathlib.Core.List.{List}
 use Prim.Native.Nat.{ℕ, ◌*◌, ◌-◌, ◌≤◌}
-use native.Mathlib.Omega.{arith}
 use lib.ListN.{length}
-use Rattle.walk.specs.Units.{wide}
-use Rattle.plan.specs.Tables.{portion_of}
 use Rattle.bucket_test.specs.Turn.{record_at, record_sound_at}
 use Rattle.plan.specs.declared.Plan.{Plan}
 use Rattle.bucket_test.specs.declared.State.{State}
-use Rattle.plan.proofs.PlaceLaws.{passed, failed, Sought, sought_none, sought_next, sought_here, sought_nowhere}
-use Rattle.plan.proofs.AcceptedLaws.{accepted}
-use Rattle.plan.proofs.SpendingLaws.{spent_is, may_spend}
-use Rattle.bucket_test.proofs.TurningLaws.{part_lent}
-use borrow.Author.Rules.{rules}
+use Rattle.plan.proofs.PlaceLaws.{Sought}
 use Rattle.bucket_test.proofs.judging.records_sound.Given as goal
 
 abbrev pub passes : Plan → State → List ℕ → ℕ → Bool

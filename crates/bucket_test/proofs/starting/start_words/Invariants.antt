@@ -1,14 +1,11 @@
 -- The first i parts are those of step 0; the others are as they were.
-use mathlib.Core.Path.{◌≡◌, refl, ◌∙◌}
+use mathlib.Core.Path.{◌≡◌}
 use mathlib.Core.List.{List, ◌++◌}
 use Prim.Native.Nat.{ℕ, ◌*◌, ◌-◌, ◌≤◌}
-use native.Mathlib.Omega.{arith}
 use lib.ListN.{length, drop}
 use Rattle.walk.specs.Units.{wide}
 use Rattle.walk.specs.Record.{start_part}
 use Rattle.plan.specs.Places.{join_to}
-use Rattle.bucket_test.proofs.TurningLaws.{part_length, part_lent, words_none, words_all, part_put}
-use borrow.Author.Rules.{rules}
 use Rattle.bucket_test.proofs.starting.start_words.Given as goal
 
 abbrev pub start_at : ℕ → List ℕ

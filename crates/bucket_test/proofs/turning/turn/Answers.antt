@@ -1,6 +1,5 @@
 -- By cases on the mark: an open threshold walks one step, and is marked by the boundaries of that step.
 use Rattle.bucket_test.specs.Turn.{walked_on}
-use borrow.Author.Rules.{rules}
 use Rattle.bucket_test.proofs.turning.turn.Goals as goal
 
 pub step-walked-requires : goal.step-walked-requires

@@ -1,21 +1,13 @@
 -- After i turns the first i records and parts have had theirs; the others are as they were.
-use mathlib.Core.Path.{◌≡◌, refl, ap, ◌∙◌}
+use mathlib.Core.Path.{◌≡◌}
 use mathlib.Core.List.{List, ◌++◌}
-use Prim.Native.Nat.{ℕ, ◌+◌, ◌*◌, ◌-◌, ◌≤◌}
-use native.Mathlib.Omega.{arith}
-use lib.ListN.{length, take, drop, get_or}
+use Prim.Native.Nat.{ℕ, ◌*◌, ◌-◌, ◌≤◌}
+use lib.ListN.{length, drop, get_or}
 use Rattle.walk.specs.Units.{wide}
 use Rattle.plan.specs.Places.{over_to, join_to}
-use Rattle.plan.specs.Plan.{spending_of}
-use Rattle.plan.specs.Tables.{portion_of}
-use Rattle.bucket_test.specs.Words.{part_at}
 use Rattle.bucket_test.specs.Turn.{no_record, record_turn, part_turn}
 use Rattle.plan.specs.declared.Plan.{Plan}
 use Rattle.bucket_test.specs.declared.Threshold.{Threshold}
-use Rattle.plan.proofs.AcceptedLaws.{accepted}
-use Rattle.plan.proofs.SpendingLaws.{spent_is, may_spend}
-use Rattle.bucket_test.proofs.TurningLaws.{record_now, record_put, part_length, words_none, words_all, part_now_lem, part_put, may_turn, same_record, same_part}
-use borrow.Author.Rules.{rules}
 use Rattle.bucket_test.proofs.turning.turn_all.Given as goal
 
 abbrev pub part_of : Plan → List Threshold → List ℕ → ℕ → ℕ → ℕ → List ℕ

@@ -2,7 +2,6 @@
 use mathlib.Core.Path.{refl}
 use Rattle.bucket_test.specs.Turn.{walked_on}
 use Rattle.bucket_test.proofs.TurningLaws.{front_same}
-use borrow.Author.Rules.{rules}
 use Rattle.bucket_test.proofs.turning.turn_front.Goals as goal
 
 pub advance-next-requires : goal.advance-next-requires

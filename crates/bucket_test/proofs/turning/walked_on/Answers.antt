@@ -1,5 +1,4 @@
 -- What `mark_of` answers, and the walk as it is.
-use borrow.Author.Rules.{rules}
 use Rattle.bucket_test.proofs.turning.walked_on.Goals as goal
 
 pub returns : goal.returns

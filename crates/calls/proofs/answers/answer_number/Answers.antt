@@ -1,6 +1,5 @@
 -- By the cases of an answer.
 use native.Mathlib.Omega.{arith}
-use borrow.Author.Rules.{rules}
 use Rattle.calls.proofs.answers.answer_number.Goals as goal
 
 pub overflow_add-result : goal.overflow_add-result

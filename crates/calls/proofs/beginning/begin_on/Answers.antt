@@ -9,7 +9,6 @@ use Rattle.saved_test.specs.Form.{record_offset}
 use Rattle.calls.specs.Calls.{answer_number}
 use Rattle.calls.proofs.CallLaws.{rule_small}
 use Rattle.calls.proofs.BeginLaws.{start_size, state_start, live_few, begins_12, begins_form}
-use borrow.Author.Rules.{rules}
 use Rattle.calls.proofs.beginning.begin_on.Goals.{After-ten_of-s}
 use Rattle.walk.specs.Units.{M}
 use Rattle.calls.proofs.beginning.begin_on.Goals as goal
@@ -29,12 +28,11 @@ starts c =
 
 pub write_front-requires : goal.write_front-requires
 unfolding record_offset
-write_front-requires c =
-    (
-      ((accepted c.args.p).0 c.requires).count_range.1,
-      λ i l. rw (starts (goal.at.write_front-requires c).After-ten_of-s) (live_few c.args.p c.requires i l),
-      omega (arith, c.if-lent-count.false, c.lent-1),
-    )
+write_front-requires c = (
+  ((accepted c.args.p).0 c.requires).count_range.1,
+  λ i l. rw (starts (goal.at.write_front-requires c).After-ten_of-s) (live_few c.args.p c.requires i l),
+  omega (arith, c.if-lent-count.false, c.lent-1),
+)
 
 pub answer_of-requires : goal.answer_of-requires
 answer_of-requires c =

@@ -1,12 +1,10 @@
 -- The masses before place i are put.
 use Prim.Native.Nat.{◌-◌}
-use native.Mathlib.Omega.{arith}
 use Rattle.walk.specs.Units.{M}
 use Rattle.little.specs.Little.{to_le}
 use Rattle.little.proofs.LittleLaws.{to_length}
-use Rattle.little.proofs.EntryLaws.{PutTo, put_start, put_next, put_all}
+use Rattle.little.proofs.EntryLaws.{PutTo}
 use Rattle.saved_test.specs.Form.{mass_size, record_offset}
-use borrow.Author.Rules.{rules}
 use Rattle.calls.proofs.beginning.start_masses.Given as goal
 
 abbrev pub invariant-loop-i : goal.invariant-loop-i

@@ -1,12 +1,6 @@
 -- None of the thresholds before place i has more.
-use mathlib.Core.Path.{◌≡◌, ap, ◌∙◌}
-use mathlib.Core.Logic.{⊎_elim}
 use Prim.Native.Nat.{ℕ, ◌-◌, ◌≤◌, ◌<◌}
-use native.Mathlib.Omega.{arith}
-use borrow.Author.Rules.{rules}
-use Rattle.plan.proofs.PlaceLaws.{le_or_lt}
-use Rattle.bucket_test.specs.declared.Threshold.{Threshold}
-use Rattle.saved_test.specs.Form.{record_offset, live_count}
+use Rattle.saved_test.specs.Form.{live_count}
 use Rattle.saved_test.specs.Reading.{record_in}
 use Rattle.calls.proofs.drawing.most_masses.Given as goal
 

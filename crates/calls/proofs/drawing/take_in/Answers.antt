@@ -1,7 +1,6 @@
 -- By the masses of the threshold with the most.
 use native.Mathlib.Omega.{arith}
 use Rattle.calls.proofs.Taking.{ready_few, ready_long}
-use borrow.Author.Rules.{rules}
 use Rattle.calls.proofs.drawing.take_in.Goals as goal
 
 pub most_masses-most-requires : goal.most_masses-most-requires

@@ -1,7 +1,6 @@
 -- An open threshold is not wide.
 use Rattle.walk.specs.Units.{wide}
 use Rattle.calls.proofs.Taking.{few_live_in}
-use borrow.Author.Rules.{rules}
 use Rattle.calls.proofs.drawing.take_in_any.Goals as goal
 
 pub take_with-requires : goal.take_with-requires

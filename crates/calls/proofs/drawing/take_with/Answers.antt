@@ -11,7 +11,6 @@ use Rattle.saved_test.specs.Form.{header_size, draws_field, ones_field, form_siz
 use Rattle.calls.specs.Inner.{new_size, Turns}
 use Rattle.calls.proofs.TurnLaws.{new_few}
 use Rattle.calls.proofs.Taking.{numbered, risen, ready_turns, ready_12, ready_form_put}
-use borrow.Author.Rules.{rules}
 use Rattle.calls.proofs.drawing.take_with.Goals.{After-read_u32, After-read_u32-n, Else-not-has_room}
 use Rattle.calls.proofs.drawing.take_with.Goals as goal
 
@@ -33,7 +32,6 @@ overflow_add-ones c =
 
 -- where n and S are read
 module _ (c : After-read_u32) where
-
   n_is : c.read_u32-n.result + 1 ≡ field 4 draws_field c.args.bytes.now + 1
   n_is = omega (arith, c.read_u32-n.ensures.0)
 
@@ -60,12 +58,11 @@ room : (c : Else-not-has_room) → let a = c.args in
 room c = le?_sound _ _ (passed c.has_room.ensures.0 c.if-not-has_room.false-raw)
 
 pub turn_through-turned-requires : goal.turn_through-turned-requires
-turn_through-turned-requires c =
-    (
-      turns (goal.at.turn_through-turned-requires c).After-read_u32,
-      λ i l. omega (arith, c.requires.1 i l, c.part-1),
-      λ _. omega (arith, room (goal.at.turn_through-turned-requires c).Else-not-has_room, c.lent-1),
-    )
+turn_through-turned-requires c = (
+  turns (goal.at.turn_through-turned-requires c).After-read_u32,
+  λ i l. omega (arith, c.requires.1 i l, c.part-1),
+  λ _. omega (arith, room (goal.at.turn_through-turned-requires c).Else-not-has_room, c.lent-1),
+)
 
 pub write_header-requires : goal.write_header-requires
 unfolding form_size record_offset wide

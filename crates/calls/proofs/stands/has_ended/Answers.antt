@@ -2,7 +2,6 @@
 use mathlib.Core.Path.{ap, ◌∙◌}
 use Rattle.bucket_test.specs.Answers.{is_ending}
 use Rattle.calls.proofs.CallLaws.{answer_held}
-use borrow.Author.Rules.{rules}
 use Rattle.calls.proofs.stands.has_ended.Goals as goal
 
 pub returns : goal.returns

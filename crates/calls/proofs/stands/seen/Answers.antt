@@ -1,5 +1,4 @@
 -- The mark narrows the interval; whether the record is wide is asked only while none is.
-use borrow.Author.Rules.{rules}
 use Rattle.calls.proofs.stands.seen.Goals as goal
 
 pub returns-else-s : goal.returns-else-s

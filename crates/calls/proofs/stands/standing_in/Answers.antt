@@ -1,12 +1,8 @@
 -- After i places s is how the first i records stand; its high never passes a million, as `seen` asks.
 use mathlib.Core.Path.{◌≡◌}
-use Prim.Native.Nat.{◌-◌, ◌≤◌}
 use native.Mathlib.Omega.{arith}
-use borrow.Author.Rules.{rules}
-use Rattle.walk.specs.Units.{million}
 use Rattle.saved_test.specs.Form.{record_offset}
 use Rattle.saved_test.specs.Reading.{record_in}
-use Rattle.calls.specs.Inner.{Seen}
 use Rattle.calls.proofs.TurnLaws.{seen_none, seen_next}
 use Rattle.calls.proofs.stands.standing_in.Goals as goal
 

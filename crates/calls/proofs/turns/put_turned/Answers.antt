@@ -3,7 +3,6 @@ use mathlib.Core.Path.{◌≡◌, refl, ◌∙◌}
 use mathlib.Core.Bool.{true, false}
 use native.Mathlib.Omega.{arith}
 use Rattle.plan.proofs.PlaceLaws.{passed, failed}
-use borrow.Author.Rules.{rules}
 use Rattle.calls.proofs.turns.put_turned.Goals as goal
 
 pub returns-then-not-writes : goal.returns-then-not-writes

@@ -2,7 +2,6 @@
 use mathlib.Core.Path.{◌≡◌, ◌∙◌}
 use Rattle.little.specs.Little.{column, filled}
 use Rattle.saved_test.specs.Form.{mass_size, live_count}
-use borrow.Author.Rules.{rules}
 use Rattle.calls.proofs.turns.turn_at.Goals.{After-front_in}
 use Rattle.calls.proofs.turns.turn_at.Goals as goal
 

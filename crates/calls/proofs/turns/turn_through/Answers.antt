@@ -1,26 +1,19 @@
 -- The turns of the thresholds before place i are taken; where it writes, their masses stand behind the place of the records, and their records
 -- behind the header's.
 use mathlib.Core.Path.{◌≡◌, refl, sym, ◌∙◌}
-use mathlib.Core.Bool.{Bool, true, false}
-use mathlib.Core.List.{List}
-use Prim.Native.Nat.{ℕ, ◌+◌, ◌*◌, ◌-◌, ◌≤◌, ◌<◌}
+use Prim.Native.Nat.{ℕ, ◌+◌, ◌*◌, ◌≤◌, ◌<◌}
 use native.Mathlib.Omega.{arith}
 use lib.ListN.{length, take}
-use Rattle.walk.specs.declared.Portion.{Portion}
 use Rattle.walk.specs.Units.{million, wide}
 use Rattle.plan.specs.Plan.{count_limit}
 use Rattle.plan.specs.Places.{join_to}
 use Rattle.bucket_test.specs.declared.Threshold.{Threshold}
-use Rattle.little.specs.Little.{put_at}
 use Rattle.little.proofs.Putting.{put_none}
 use Rattle.saved_test.specs.Form.{record_size, mass_size, header_size, record_offset, form_size, live_count, masses_to}
 use Rattle.saved_test.specs.Reading.{record_in, mass_offset}
 use Rattle.saved_test.proofs.ReadingLaws.{offset_first}
-use Rattle.calls.specs.Inner.{Seen, new_record, new_record_bytes, new_mass_bytes}
-use Rattle.calls.specs.declared.Standing.{Standing}
 use Rattle.calls.proofs.TurnLaws.{seen_none, seen_next, next, parts, offset, may_turn, turned, old_next, old_small, new_few, new_room, new_live, new_masses_lem, new_inside, entries_next, entries_last}
 use borrow.Author.Rules.{rules}
-use Rattle.calls.proofs.turns.turn_through.Invariants.{Done}
 use Rattle.calls.proofs.turns.turn_through.Goals.{After-live_count, After-live_count-live, After-spending_at-e}
 use Rattle.calls.proofs.turns.turn_through.Goals as goal
 
@@ -54,7 +47,6 @@ spending_at-e-requires c =
 
 -- the threshold at place i before its turn, its spending known
 module _ (c : After-spending_at-e) where
-
   place : c.loop-i.i < count_limit
   place = omega (arith, c.requires.0.few, c.loop-i-test.true)
 
@@ -76,7 +68,6 @@ turn_at-next-requires c =
 
 -- .. and after it
 module _ (c : After-live_count-live) where
-
   -- as it was before
   was : c.record_from-t.result ≡ record_in c.args.bytes.now c.loop-i.i
   unfolding record_offset
@@ -152,7 +143,6 @@ overflow_add-masses c = let b = (goal.at.overflow_add-masses c).After-live_count
 
 -- where the next old masses stand
 module _ (c : After-live_count) where
-
   before : c.record_from-t.result ≡ record_in c.args.bytes.now c.loop-i.i
   unfolding record_offset
   before = c.record_from-t.ensures

@@ -1,25 +1,18 @@
 -- The turns of the thresholds before place i are taken; where it writes, their masses stand behind the place of the records, and their records
 -- behind the header's.
-use mathlib.Core.Path.{◌≡◌, refl, sym, ◌∙◌}
+use mathlib.Core.Path.{◌≡◌}
 use mathlib.Core.Bool.{Bool, true, false}
 use mathlib.Core.List.{List}
-use Prim.Native.Nat.{ℕ, ◌+◌, ◌*◌, ◌-◌, ◌≤◌, ◌<◌}
-use native.Mathlib.Omega.{arith}
-use lib.ListN.{length, take}
+use Prim.Native.Nat.{ℕ, ◌-◌, ◌≤◌}
+use lib.ListN.{length}
 use Rattle.walk.specs.declared.Portion.{Portion}
-use Rattle.walk.specs.Units.{million, wide}
-use Rattle.plan.specs.Plan.{count_limit}
+use Rattle.walk.specs.Units.{million}
 use Rattle.plan.specs.Places.{join_to}
-use Rattle.bucket_test.specs.declared.Threshold.{Threshold}
 use Rattle.little.specs.Little.{put_at}
-use Rattle.little.proofs.Putting.{put_none}
-use Rattle.saved_test.specs.Form.{record_size, mass_size, header_size, record_offset, form_size, live_count, masses_to}
-use Rattle.saved_test.specs.Reading.{record_in, mass_offset}
-use Rattle.saved_test.proofs.ReadingLaws.{offset_first}
+use Rattle.saved_test.specs.Form.{header_size, record_offset, masses_to}
+use Rattle.saved_test.specs.Reading.{mass_offset}
 use Rattle.calls.specs.Inner.{Seen, new_record, new_record_bytes, new_mass_bytes}
 use Rattle.calls.specs.declared.Standing.{Standing}
-use Rattle.calls.proofs.TurnLaws.{seen_none, seen_next, next, parts, offset, may_turn, turned, old_next, old_small, new_few, new_room, new_live, new_masses_lem, new_inside, entries_next, entries_last}
-use borrow.Author.Rules.{rules}
 use Rattle.calls.proofs.turns.turn_through.Given as goal
 
 pub record Done (thresholds allowances : List ℕ) (count : ℕ) (portion : Portion) (n ones : ℕ) (bytes part₀ lent₀ part lent : List ℕ) (writes : Bool) (at masses : ℕ) (standing : Standing)

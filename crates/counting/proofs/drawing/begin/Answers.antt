@@ -2,7 +2,6 @@
 use mathlib.Core.Path.{sym, ◌∙◌}
 use borrow.Author.Tests.{not-true, not-false}
 use Rattle.counting.specs.Run.{begun}
-use borrow.Author.Rules.{rules}
 use Rattle.counting.proofs.drawing.begin.Goals as goal
 
 pub returns-then-not-sizes_fit : goal.returns-then-not-sizes_fit

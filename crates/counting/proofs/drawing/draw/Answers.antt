@@ -4,7 +4,6 @@ use mathlib.Core.Bool.{true, false}
 use Prim.Native.Nat.{◌+◌, ◌≤◌, ◌<◌}
 use native.Mathlib.Omega.{arith}
 use borrow.Author.Tests.{not-true, not-false}
-use borrow.Author.Rules.{rules}
 use Rattle.counting.specs.Run.{size_limit, sizes_fit, is_over, is_sound}
 use Rattle.counting.specs.OneCall.{InRange}
 use Rattle.counting.proofs.JudgingLaws.{in-range, sound_says, drawn_13, drawn_9, drawn_10, drawn_11, drawn_0}

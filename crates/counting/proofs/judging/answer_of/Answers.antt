@@ -1,7 +1,6 @@
 -- The first that fits of the h-th one, draw n - 1, and neither.
 use Rattle.counting.specs.Run.{answer_of}
 use Rattle.counting.proofs.TestLaws.{eq_holds, eq_fails}
-use borrow.Author.Rules.{rules}
 use Rattle.counting.proofs.judging.answer_of.Goals as goal
 
 pub returns-then-r : goal.returns-then-r

@@ -2,7 +2,6 @@
 use Rattle.counting.specs.Tests.{eq?}
 use Rattle.counting.specs.Run.{is_over}
 use Rattle.counting.proofs.TestLaws.{eq_holds, eq_fails}
-use borrow.Author.Rules.{rules}
 use Rattle.counting.proofs.judging.is_over.Goals as goal
 
 pub returns-then-r : goal.returns-then-r

@@ -1,7 +1,6 @@
 -- The outcome of the beginning.
 use mathlib.Core.Path.{ap, ◌∙◌}
 use Rattle.host.specs.Runs.{run_out}
-use borrow.Author.Rules.{rules}
 use Rattle.host.proofs.runs.host_count_begin.Goals as goal
 
 pub returns : goal.returns

@@ -1,7 +1,6 @@
 -- The answer and the run.
 use mathlib.Core.Path.{refl}
 use Rattle.host.specs.Runs.{run_out}
-use borrow.Author.Rules.{rules}
 use Rattle.host.proofs.runs.run_out.Goals as goal
 
 pub returns : goal.returns

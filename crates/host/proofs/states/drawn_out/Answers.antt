@@ -1,7 +1,6 @@
 -- The answer, the counts and the ten records.
 use mathlib.Core.Path.{refl}
 use Rattle.host.specs.States.{drawn_out}
-use borrow.Author.Rules.{rules}
 use Rattle.host.proofs.states.drawn_out.Goals as goal
 
 pub returns : goal.returns

@@ -1,7 +1,6 @@
 -- The refusal, the counts and the ten records.
 use mathlib.Core.Path.{refl}
 use Rattle.host.specs.States.{loaded_out}
-use borrow.Author.Rules.{rules}
 use Rattle.host.proofs.states.loaded_out.Goals as goal
 
 pub returns : goal.returns

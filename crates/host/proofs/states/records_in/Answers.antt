@@ -1,7 +1,5 @@
 -- A loop that copies.
-use Prim.Native.Nat.{◌-◌}
-use Rattle.host.specs.States.{record_in}
-use Rattle.host.proofs.Copies.{Copied, copied_none, copied_more, copied_all}
+use Rattle.host.proofs.Copies.{copied_none, copied_more, copied_all}
 use borrow.Author.Rules.{rules}
 use Rattle.host.proofs.states.records_in.Goals as goal
 

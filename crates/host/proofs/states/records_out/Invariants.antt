@@ -1,8 +1,7 @@
 -- A loop that copies.
 use Prim.Native.Nat.{◌-◌}
 use Rattle.host.specs.States.{record_out}
-use Rattle.host.proofs.Copies.{Copied, copied_none, copied_more, copied_all}
-use borrow.Author.Rules.{rules}
+use Rattle.host.proofs.Copies.{Copied}
 use Rattle.host.proofs.states.records_out.Given as goal
 
 abbrev pub invariant-loop-i : goal.invariant-loop-i

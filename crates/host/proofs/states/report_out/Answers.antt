@@ -1,6 +1,5 @@
 -- The answer and the interval.
 use mathlib.Core.Path.{refl}
-use borrow.Author.Rules.{rules}
 use Rattle.host.proofs.states.report_out.Goals as goal
 
 pub returns : goal.returns

@@ -1,6 +1,5 @@
 -- The counts and the ten records.
 use mathlib.Core.Path.{refl}
-use borrow.Author.Rules.{rules}
 use Rattle.host.proofs.states.state_in.Goals as goal
 
 pub returns : goal.returns

@@ -2,7 +2,6 @@
 use Prim.Native.Nat.{◌+◌}
 use native.Mathlib.Omega.{arith}
 use Rattle.little.proofs.LittleLaws.{field_join, field_byte}
-use borrow.Author.Rules.{rules}
 use Rattle.little.proofs.numbers.read_u16.Goals as goal
 
 pub returns : goal.returns

@@ -1,7 +1,6 @@
 -- Two fields of four bytes each.
 use native.Mathlib.Omega.{arith}
 use Rattle.little.proofs.LittleLaws.{field_join}
-use borrow.Author.Rules.{rules}
 use Rattle.little.proofs.numbers.read_u64.Goals as goal
 
 pub returns : goal.returns

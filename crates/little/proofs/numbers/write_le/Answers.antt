@@ -1,10 +1,8 @@
 -- What is left to store at i, after what was stored, is the whole.
 use mathlib.Core.Path.{◌≡◌, refl, ◌∙◌}
-use Prim.Native.Nat.{suc, ◌+◌, ◌-◌, ◌≤◌}
+use Prim.Native.Nat.{suc, ◌+◌, ◌-◌}
 use native.Mathlib.Omega.{arith}
 use borrow.Author.Rules.{rules}
-use lib.ListN.{length}
-use lib.Seq.{sets}
 use Rattle.little.specs.Little.{to_le}
 use Rattle.little.proofs.LittleLaws.{to_length}
 use Rattle.little.proofs.Putting.{put_sets}

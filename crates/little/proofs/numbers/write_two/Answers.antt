@@ -1,6 +1,5 @@
 -- One run behind the other.
 use native.Mathlib.Omega.{arith}
-use borrow.Author.Rules.{rules}
 use Rattle.little.specs.Little.{to_le}
 use Rattle.little.proofs.LittleLaws.{to_length}
 use Rattle.little.proofs.Putting.{then}

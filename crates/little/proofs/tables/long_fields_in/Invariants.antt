@@ -1,9 +1,7 @@
 -- The table is filled up to place i.
 use Prim.Native.Nat.{◌-◌}
-use native.Mathlib.Omega.{arith}
-use borrow.Author.Rules.{rules}
 use Rattle.little.specs.Little.{column}
-use Rattle.little.proofs.FilledLaws.{FilledTo, fill_none, fill_next, fill_all}
+use Rattle.little.proofs.FilledLaws.{FilledTo}
 use Rattle.little.proofs.tables.long_fields_in.Given as goal
 
 abbrev pub invariant-loop-i : goal.invariant-loop-i

@@ -1,6 +1,5 @@
 -- By the code.
 use Rattle.saved_test.proofs.SignLaws.{at_most_of}
-use borrow.Author.Rules.{rules}
 use Rattle.saved_test.proofs.marks.mark_of.Goals as goal
 
 pub returns-then-code-eq-ABOVE : goal.returns-then-code-eq-ABOVE

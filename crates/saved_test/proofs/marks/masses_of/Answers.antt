@@ -1,12 +1,8 @@
 -- The masses of the thresholds before place i are counted.
 use Rattle.saved_test.specs.Form.{masses_to}
-use Rattle.bucket_test.specs.Turn.{no_record}
-use lib.ListN.{get_or}
 use native.Mathlib.Numerals.{add-one}
 use native.Mathlib.Omega.{arith}
-use Prim.Native.Nat.{◌≤◌, ◌*◌, ◌-◌}
 use mathlib.Core.Path.{◌≡◌, refl}
-use borrow.Author.Rules.{rules}
 use Rattle.saved_test.proofs.marks.masses_of.Goals as goal
 
 pub loop-i-init : goal.loop-i-init

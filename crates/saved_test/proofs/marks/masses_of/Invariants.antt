@@ -2,11 +2,8 @@
 use Rattle.saved_test.specs.Form.{masses_to}
 use Rattle.bucket_test.specs.Turn.{no_record}
 use lib.ListN.{get_or}
-use native.Mathlib.Numerals.{add-one}
-use native.Mathlib.Omega.{arith}
 use Prim.Native.Nat.{◌≤◌, ◌*◌, ◌-◌}
-use mathlib.Core.Path.{◌≡◌, refl}
-use borrow.Author.Rules.{rules}
+use mathlib.Core.Path.{◌≡◌}
 use Rattle.saved_test.proofs.marks.masses_of.Given as goal
 
 abbrev pub invariant-loop-i : goal.invariant-loop-i

@@ -1,7 +1,6 @@
 -- The tests of refusal 15 in the code's order.
 use Rattle.plan.proofs.PlaceLaws.{passed, failed}
 use Rattle.saved_test.proofs.ReadingLaws.{fits_short, fits_size, fits_header, fits_records}
-use borrow.Author.Rules.{rules}
 use Rattle.saved_test.proofs.reading.form_fits.Goals as goal
 
 pub returns-then-bytes-offset : goal.returns-then-bytes-offset

@@ -5,7 +5,6 @@ use Rattle.walk.specs.Units.{wide}
 use Rattle.plan.proofs.AcceptedLaws.{accepted}
 use Rattle.plan.proofs.PlaceLaws.{passed, failed}
 use Rattle.saved_test.proofs.ReadingLaws.{judged-plan, judged_8, judged-form}
-use borrow.Author.Rules.{rules}
 use Rattle.saved_test.proofs.reading.form_refusal.Goals as goal
 
 pub returns-then-bad-ne0 : goal.returns-then-bad-ne0

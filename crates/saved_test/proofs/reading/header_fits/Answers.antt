@@ -1,6 +1,5 @@
 -- Number by number.
 use Rattle.saved_test.proofs.ReadingLaws.{yes, no, as_read}
-use borrow.Author.Rules.{rules}
 use Rattle.saved_test.proofs.reading.header_fits.Goals as goal
 
 pub returns-then-read_u16-count : goal.returns-then-read_u16-count

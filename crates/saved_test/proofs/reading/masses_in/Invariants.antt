@@ -1,11 +1,8 @@
 -- As `masses_of`, of records that bytes hold.
-use Rattle.saved_test.specs.Form.{masses_to, record_offset}
+use Rattle.saved_test.specs.Form.{masses_to}
 use Rattle.saved_test.specs.Reading.{record_in}
-use native.Mathlib.Numerals.{add-one}
-use native.Mathlib.Omega.{arith}
 use Prim.Native.Nat.{◌≤◌, ◌*◌, ◌-◌}
-use mathlib.Core.Path.{◌≡◌, refl}
-use borrow.Author.Rules.{rules}
+use mathlib.Core.Path.{◌≡◌}
 use Rattle.saved_test.proofs.reading.masses_in.Given as goal
 
 abbrev pub invariant-loop-i : goal.invariant-loop-i

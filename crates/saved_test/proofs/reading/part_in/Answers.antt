@@ -1,5 +1,4 @@
 -- The rest is cleared, then the first words are filled.
-use borrow.Author.Rules.{rules}
 use Rattle.saved_test.proofs.ReadingLaws.{part_filled}
 use Rattle.saved_test.proofs.reading.part_in.Goals as goal
 

@@ -1,15 +1,13 @@
 -- The parts before place i are read.
 use Rattle.saved_test.proofs.ReadingLaws.{part_made, held_few, held_inside, offset_next, offset_first}
-use Rattle.saved_test.specs.Reading.{record_in, mass_offset, part_in}
+use Rattle.saved_test.specs.Reading.{record_in, part_in}
 use Rattle.saved_test.specs.Form.{record_offset, form_size, live_count}
 use Rattle.bucket_test.proofs.TurningLaws.{part_length, part_lent, words_none, words_all, part_put}
 use Rattle.bucket_test.specs.declared.Threshold.{Threshold}
-use Rattle.plan.specs.Places.{join_to}
 use Rattle.walk.specs.Units.{wide}
-use lib.ListN.{length, drop}
+use lib.ListN.{length}
 use native.Mathlib.Omega.{arith}
-use Prim.Native.Nat.{◌+◌, ◌*◌, ◌-◌, ◌≤◌}
-use mathlib.Core.List.{◌++◌}
+use Prim.Native.Nat.{◌+◌, ◌*◌, ◌≤◌}
 use mathlib.Core.Path.{◌≡◌, refl, ap, ◌∙◌}
 use borrow.Author.Rules.{rules}
 use Rattle.saved_test.proofs.reading.parts_in.Goals.{After-live_count-n}

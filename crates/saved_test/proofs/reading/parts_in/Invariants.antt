@@ -1,17 +1,11 @@
 -- The parts before place i are read.
-use Rattle.saved_test.proofs.ReadingLaws.{part_made, held_few, held_inside, offset_next, offset_first}
-use Rattle.saved_test.specs.Reading.{record_in, mass_offset, part_in}
-use Rattle.saved_test.specs.Form.{record_offset, form_size, live_count}
-use Rattle.bucket_test.proofs.TurningLaws.{part_length, part_lent, words_none, words_all, part_put}
-use Rattle.bucket_test.specs.declared.Threshold.{Threshold}
+use Rattle.saved_test.specs.Reading.{mass_offset, part_in}
 use Rattle.plan.specs.Places.{join_to}
 use Rattle.walk.specs.Units.{wide}
 use lib.ListN.{length, drop}
-use native.Mathlib.Omega.{arith}
-use Prim.Native.Nat.{◌+◌, ◌*◌, ◌-◌, ◌≤◌}
+use Prim.Native.Nat.{◌*◌, ◌-◌, ◌≤◌}
 use mathlib.Core.List.{◌++◌}
-use mathlib.Core.Path.{◌≡◌, refl, ap, ◌∙◌}
-use borrow.Author.Rules.{rules}
+use mathlib.Core.Path.{◌≡◌}
 use Rattle.saved_test.proofs.reading.parts_in.Given as goal
 
 abbrev pub invariant-loop-i : goal.invariant-loop-i

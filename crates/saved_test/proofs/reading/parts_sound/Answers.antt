@@ -1,20 +1,15 @@
 -- The thresholds before place i pass.
 use mathlib.Core.Path.{◌≡◌, ap, ◌∙◌}
-use mathlib.Core.Bool.{Bool, false}
-use mathlib.Core.List.{List}
-use Prim.Native.Nat.{ℕ, ◌+◌, ◌*◌, ◌-◌, ◌≤◌}
+use mathlib.Core.Bool.{false}
+use Prim.Native.Nat.{ℕ, ◌+◌, ◌*◌, ◌≤◌}
 use native.Mathlib.Omega.{arith}
-use lib.ListN.{length, get_or}
+use lib.ListN.{length}
 use Rattle.walk.specs.Units.{wide}
-use Rattle.walk.specs.Spending.{portioned}
-use Rattle.walk.specs.declared.Portion.{Portion}
-use Rattle.plan.proofs.PlaceLaws.{passed, failed, Sought, sought_none, sought_next, sought_here, sought_nowhere}
-use Rattle.bucket_test.specs.Turn.{record_sound}
+use Rattle.plan.proofs.PlaceLaws.{passed, failed, sought_none, sought_next, sought_here, sought_nowhere}
 use Rattle.bucket_test.specs.declared.Threshold.{Threshold}
 use Rattle.saved_test.specs.Form.{record_offset, form_size, live_count}
-use Rattle.saved_test.specs.Reading.{record_in, mass_offset, part_in}
+use Rattle.saved_test.specs.Reading.{record_in, mass_offset}
 use Rattle.saved_test.proofs.ReadingLaws.{offset_first, held_few, held_inside, held_next, held_sound}
-use borrow.Author.Rules.{rules}
 use Rattle.saved_test.proofs.reading.parts_sound.Invariants.{passes}
 use Rattle.saved_test.proofs.reading.parts_sound.Goals.{After-record_from-t, After-record_sound_in}
 use Rattle.saved_test.proofs.reading.parts_sound.Goals as goal
@@ -28,7 +23,6 @@ record_from-t-requires c = omega (arith, c.requires.4.sized, c.loop-i-test.true)
 
 -- what is known of the threshold at place i
 module _ (c : After-record_from-t) where
-
   abbrev i : ℕ
   i = c.loop-i.i
 
@@ -44,8 +38,7 @@ module _ (c : After-record_from-t) where
       × (c.loop-i.at + 8 * live_count c.record_from-t.result ≡ mass_offset c.args.bytes.now c.args.count (i + 1))
   lent =
       let l = c.loop-i in
-      let h = c.loop-i-test.true in
-      (
+      let h = c.loop-i-test.true in (
         held_few _ _ c.requires.4 i h _ l.at live l.invariant.0,
         held_inside _ _ c.requires.4 i h _ l.at live l.invariant.0,
         held_next _ _ c.requires.4 i h _ l.at live l.invariant.0,

@@ -1,20 +1,14 @@
 -- The thresholds before place i pass.
-use mathlib.Core.Path.{◌≡◌, ap, ◌∙◌}
+use mathlib.Core.Path.{◌≡◌}
 use mathlib.Core.Bool.{Bool, false}
 use mathlib.Core.List.{List}
-use Prim.Native.Nat.{ℕ, ◌+◌, ◌*◌, ◌-◌, ◌≤◌}
-use native.Mathlib.Omega.{arith}
-use lib.ListN.{length, get_or}
-use Rattle.walk.specs.Units.{wide}
+use Prim.Native.Nat.{ℕ, ◌-◌}
+use lib.ListN.{get_or}
 use Rattle.walk.specs.Spending.{portioned}
 use Rattle.walk.specs.declared.Portion.{Portion}
-use Rattle.plan.proofs.PlaceLaws.{passed, failed, Sought, sought_none, sought_next, sought_here, sought_nowhere}
+use Rattle.plan.proofs.PlaceLaws.{Sought}
 use Rattle.bucket_test.specs.Turn.{record_sound}
-use Rattle.bucket_test.specs.declared.Threshold.{Threshold}
-use Rattle.saved_test.specs.Form.{record_offset, form_size, live_count}
 use Rattle.saved_test.specs.Reading.{record_in, mass_offset, part_in}
-use Rattle.saved_test.proofs.ReadingLaws.{offset_first, held_few, held_inside, held_next, held_sound}
-use borrow.Author.Rules.{rules}
 use Rattle.saved_test.proofs.reading.parts_sound.Given as goal
 
 -- the threshold at place i passes

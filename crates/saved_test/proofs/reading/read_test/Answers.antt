@@ -14,7 +14,6 @@ use Rattle.little.specs.Little.{field}
 use Rattle.saved_test.specs.Form.{draws_field}
 use Rattle.saved_test.specs.Reading.{form_fits}
 use Rattle.saved_test.proofs.ReadingLaws.{form-judged, form_long, form_held, read-form, read_11, read_none, words_made}
-use borrow.Author.Rules.{rules}
 use Rattle.saved_test.proofs.reading.read_test.Goals.{After-portion_at-portion, Else-bad-ne0}
 use Rattle.saved_test.proofs.reading.read_test.Goals as goal
 
@@ -23,7 +22,6 @@ returns-then-bad-ne0 c = read-form _ _ _ _ c.form_refusal-bad.ensures c.if-bad-n
 
 -- what is known where the form fits
 module _ (c : Else-bad-ne0) where
-
   fit : (plan_refusal c.args.p ≡ 0)
       × ((length c.args.words.now ≡ wide * c.args.p.count) × (form_fits c.args.p c.args.bytes.now ≡ true))
   fit = (form-judged c.args.p c.args.bytes.now (length c.args.words.now)).0 (sym c.form_refusal-bad.ensures ∙ c.if-bad-ne0.false)

@@ -5,7 +5,6 @@ use Rattle.saved_test.specs.Reading.{mark_known, count_fits}
 use Rattle.bucket_test.specs.declared.Threshold.{Threshold}
 use Rattle.plan.proofs.PlaceLaws.{passed, failed}
 use mathlib.Core.Path.{◌≡◌, ap, ◌∙◌}
-use borrow.Author.Rules.{rules}
 use Rattle.saved_test.proofs.reading.record_fits.Goals.{After-mark_known}
 use Rattle.saved_test.proofs.reading.record_fits.Goals as goal
 

@@ -1,6 +1,5 @@
 -- Field by field.
 use Rattle.saved_test.proofs.ReadingLaws.{record_made}
-use borrow.Author.Rules.{rules}
 use Rattle.saved_test.proofs.reading.record_from.Goals as goal
 
 pub returns : goal.returns

@@ -4,7 +4,6 @@ use mathlib.Core.Bool.{true}
 use Prim.Native.Nat.{◌+◌, ◌*◌, ◌≤◌}
 use lib.ListN.{length}
 use native.Mathlib.Omega.{arith}
-use borrow.Author.Rules.{rules}
 use borrow.Author.Tests.{not-true, not-false}
 use Rattle.walk.specs.Units.{wide}
 use Rattle.bucket_test.specs.Turn.{numbers_sound}
@@ -24,7 +23,6 @@ passed : (c : Else-not-numbers_sound) → let a = c.args in numbers_sound a.e a.
 passed c = sym c.numbers_sound.ensures ∙ not-false _ c.if-not-numbers_sound.false-raw
 
 module _ (c : After-live_count) where
-
   there : (c.live_count.result ≤ wide) × (c.args.at + mass_size * c.live_count.result ≤ length c.args.bytes.now)
   there = let n = c.live_count.ensures.0 in (omega (arith, n, c.requires.0), omega (arith, n, c.requires.1))
 

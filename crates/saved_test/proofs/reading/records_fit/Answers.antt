@@ -1,12 +1,9 @@
 -- The records before place i fit.
-use native.Mathlib.Omega.{arith}
 use Rattle.saved_test.specs.Reading.{record_fits}
 use Rattle.saved_test.specs.Form.{record_offset}
-use Rattle.plan.proofs.PlaceLaws.{passed, failed, Sought, sought_none, sought_next, sought_here, sought_nowhere}
-use Prim.Native.Nat.{◌-◌}
+use Rattle.plan.proofs.PlaceLaws.{passed, failed, sought_none, sought_next, sought_here, sought_nowhere}
 use mathlib.Core.Bool.{false}
 use mathlib.Core.Path.{◌≡◌}
-use borrow.Author.Rules.{rules}
 use Rattle.saved_test.proofs.reading.records_fit.Goals.{After-record_fits}
 use Rattle.saved_test.proofs.reading.records_fit.Goals as goal
 

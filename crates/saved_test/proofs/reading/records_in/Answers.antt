@@ -9,7 +9,6 @@ use Rattle.plan.specs.Plan.{count_limit}
 use Rattle.plan.specs.Places.{over_to}
 use lib.ListN.{length, replicate}
 use native.Mathlib.Omega.{arith}
-use Prim.Native.Nat.{◌≤◌, ◌-◌}
 use mathlib.Core.Path.{◌≡◌, ap, ◌∙◌}
 use borrow.Author.Rules.{rules}
 use Rattle.saved_test.proofs.reading.records_in.Goals as goal

@@ -1,5 +1,4 @@
 -- Ten records of zeros.
-use borrow.Author.Rules.{rules}
 use Rattle.bucket_test.specs.Draw.{no_state}
 use Rattle.saved_test.proofs.reading.refused.Goals as goal
 

@@ -1,6 +1,5 @@
 -- n, S and the records.
 use Rattle.saved_test.specs.Reading.{state_in}
-use borrow.Author.Rules.{rules}
 use Rattle.saved_test.proofs.reading.state_in.Goals as goal
 
 pub returns : goal.returns

@@ -1,14 +1,8 @@
 -- The masses before place i are weighed.
 use mathlib.Core.Path.{◌≡◌, sym, ◌∙◌}
-use Prim.Native.Nat.{◌-◌, ◌≤◌}
 use native.Mathlib.Omega.{arith}
-use borrow.Author.Rules.{rules}
-use lib.ListN.{replicate}
 use Rattle.walk.specs.Units.{wide}
-use Rattle.walk.specs.Weighing.{Weighs}
-use Rattle.little.specs.Little.{column, filled}
 use Rattle.little.proofs.FilledLaws.{filled-get}
-use Rattle.saved_test.specs.Form.{mass_size}
 use Rattle.saved_test.proofs.reading.weigh_in.Goals as goal
 
 pub loop-i-init : goal.loop-i-init
@@ -16,8 +10,7 @@ loop-i-init c = (omega arith, c.weigh_none-w.ensures _)
 
 pub loop-i-preserved : goal.loop-i-preserved
 loop-i-preserved c =
-    let l = c.loop-i in
-    (
+    let l = c.loop-i in (
       omega arith,
       c.weigh_next-w.ensures _ _ (filled-get wide c.args.count _ c.requires.0 l.i (omega arith) ∙ sym c.read_u64.ensures) l.invariant.1,
     )

@@ -1,13 +1,9 @@
 -- The masses before place i are weighed.
-use mathlib.Core.Path.{◌≡◌, sym, ◌∙◌}
 use Prim.Native.Nat.{◌-◌, ◌≤◌}
-use native.Mathlib.Omega.{arith}
-use borrow.Author.Rules.{rules}
 use lib.ListN.{replicate}
 use Rattle.walk.specs.Units.{wide}
 use Rattle.walk.specs.Weighing.{Weighs}
 use Rattle.little.specs.Little.{column, filled}
-use Rattle.little.proofs.FilledLaws.{filled-get}
 use Rattle.saved_test.specs.Form.{mass_size}
 use Rattle.saved_test.proofs.reading.weigh_in.Given as goal
 

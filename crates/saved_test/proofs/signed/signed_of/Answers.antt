@@ -1,7 +1,6 @@
 -- By the highest bit.
 use native.Mathlib.Omega.{arith}
 use Rattle.saved_test.proofs.SignLaws.{high_fits, high_value}
-use borrow.Author.Rules.{rules}
 use Rattle.saved_test.proofs.signed.signed_of.Goals as goal
 
 pub overflow_sub-result : goal.overflow_sub-result

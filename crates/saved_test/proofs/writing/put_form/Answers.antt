@@ -2,7 +2,6 @@
 use native.Mathlib.Omega.{arith}
 use Rattle.saved_test.specs.Form.{record_offset}
 use Rattle.saved_test.proofs.WritingLaws.{put_12, put_none, form_put, size_is}
-use borrow.Author.Rules.{rules}
 use Rattle.saved_test.proofs.writing.put_form.Goals as goal
 
 pub masses_of-requires : goal.masses_of-requires

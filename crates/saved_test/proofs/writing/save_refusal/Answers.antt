@@ -4,7 +4,6 @@ use Rattle.plan.proofs.PlaceLaws.{passed, failed}
 use Rattle.walk.specs.Units.{wide}
 use mathlib.Core.Bool.{true, false}
 use mathlib.Core.Path.{sym, ◌∙◌}
-use borrow.Author.Rules.{rules}
 use Rattle.saved_test.proofs.writing.save_refusal.Goals as goal
 
 pub returns-then-bad-ne0 : goal.returns-then-bad-ne0

@@ -5,7 +5,6 @@ use native.Mathlib.Omega.{arith}
 use Rattle.little.specs.Little.{put_at}
 use Rattle.saved_test.specs.Form.{record_offset, header}
 use Rattle.saved_test.proofs.WritingLaws.{front_put, few_masses}
-use borrow.Author.Rules.{rules}
 use Rattle.saved_test.proofs.writing.write_front.Goals as goal
 
 pub masses_of-masses-requires : goal.masses_of-masses-requires

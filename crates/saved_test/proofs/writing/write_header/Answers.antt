@@ -2,7 +2,6 @@
 use native.Mathlib.Omega.{arith}
 use Rattle.walk.specs.Units.{wide}
 use Rattle.saved_test.proofs.WritingLaws.{header_put}
-use borrow.Author.Rules.{rules}
 use Rattle.saved_test.proofs.writing.write_header.Goals as goal
 
 pub overflow_mul-size : goal.overflow_mul-size

@@ -1,6 +1,6 @@
 -- The masses of the thresholds before place i are put.
 use Rattle.saved_test.proofs.WritingLaws.{masses_put, masses_at, masses_room}
-use Rattle.saved_test.specs.Form.{header_size, record_size, mass_size, live_count, masses_to, mass_bytes}
+use Rattle.saved_test.specs.Form.{header_size, record_size, live_count, masses_to, mass_bytes}
 use Rattle.little.proofs.Putting.{put_none}
 use Rattle.little.specs.Little.{put_at}
 use Rattle.bucket_test.proofs.TurningLaws.{part_length, part_lent}
@@ -10,7 +10,7 @@ use Rattle.plan.specs.Places.{join_to}
 use Rattle.walk.specs.Units.{wide}
 use lib.ListN.{length, get_or}
 use native.Mathlib.Omega.{arith}
-use Prim.Native.Nat.{ℕ, ◌+◌, ◌*◌, ◌-◌, ◌≤◌}
+use Prim.Native.Nat.{ℕ, ◌+◌, ◌*◌, ◌≤◌}
 use mathlib.Core.Path.{◌≡◌, refl, sym, ap, ◌∙◌}
 use borrow.Author.Rules.{rules}
 use Rattle.saved_test.proofs.writing.write_masses.Goals.{After-live_count-n}
@@ -36,8 +36,7 @@ pub write_part-requires : goal.write_part-requires
 unfolding wide
 write_part-requires c =
     let here = (goal.at.write_part-requires c).After-live_count-n in
-    let l = c.loop-i in
-    (
+    let l = c.loop-i in (
       rw (part_lent l.i c.args.words.now, part_length c.args.words.now c.args.count l.i c.requires.1 c.loop-i-test.true) (few-at here),
       rw l.invariant.1 (room_at here),
     )

@@ -1,18 +1,12 @@
 -- The masses of the thresholds before place i are put.
-use Rattle.saved_test.proofs.WritingLaws.{masses_put, masses_at, masses_room}
 use Rattle.saved_test.specs.Form.{header_size, record_size, mass_size, live_count, masses_to, mass_bytes}
-use Rattle.little.proofs.Putting.{put_none}
 use Rattle.little.specs.Little.{put_at}
-use Rattle.bucket_test.proofs.TurningLaws.{part_length, part_lent}
 use Rattle.bucket_test.specs.Turn.{no_record}
 use Rattle.bucket_test.specs.Words.{part_at}
 use Rattle.plan.specs.Places.{join_to}
-use Rattle.walk.specs.Units.{wide}
 use lib.ListN.{length, get_or}
-use native.Mathlib.Omega.{arith}
-use Prim.Native.Nat.{ℕ, ◌+◌, ◌*◌, ◌-◌, ◌≤◌}
-use mathlib.Core.Path.{◌≡◌, refl, sym, ap, ◌∙◌}
-use borrow.Author.Rules.{rules}
+use Prim.Native.Nat.{◌+◌, ◌*◌, ◌-◌, ◌≤◌}
+use mathlib.Core.Path.{◌≡◌}
 use Rattle.saved_test.proofs.writing.write_masses.Given as goal
 
 abbrev pub invariant-loop-i : goal.invariant-loop-i

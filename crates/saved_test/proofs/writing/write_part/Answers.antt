@@ -1,12 +1,9 @@
 -- The masses before place j are put.
-use Rattle.little.specs.Little.{to_le}
 use Rattle.little.proofs.LittleLaws.{to_length}
-use Rattle.little.proofs.EntryLaws.{PutTo, put_start, put_next, put_all}
+use Rattle.little.proofs.EntryLaws.{put_start, put_next, put_all}
 use Rattle.saved_test.specs.Form.{mass_size, mass_bytes}
 use lib.ListN.{get_or}
 use native.Mathlib.Omega.{arith}
-use mathlib.Core.List.{List}
-use Prim.Native.Nat.{ℕ, ◌-◌}
 use borrow.Author.Rules.{rules}
 use Rattle.saved_test.proofs.writing.write_part.Invariants.{entry}
 use Rattle.saved_test.proofs.writing.write_part.Goals as goal

@@ -1,13 +1,11 @@
 -- The masses before place j are put.
 use Rattle.little.specs.Little.{to_le}
 use Rattle.little.proofs.LittleLaws.{to_length}
-use Rattle.little.proofs.EntryLaws.{PutTo, put_start, put_next, put_all}
-use Rattle.saved_test.specs.Form.{mass_size, mass_bytes}
+use Rattle.little.proofs.EntryLaws.{PutTo}
+use Rattle.saved_test.specs.Form.{mass_size}
 use lib.ListN.{get_or}
-use native.Mathlib.Omega.{arith}
 use mathlib.Core.List.{List}
 use Prim.Native.Nat.{ℕ, ◌-◌}
-use borrow.Author.Rules.{rules}
 use Rattle.saved_test.proofs.writing.write_part.Given as goal
 
 abbrev pub entry : List ℕ → ℕ → List ℕ

@@ -1,14 +1,12 @@
 -- The records before place i are put.
-use Rattle.little.proofs.EntryLaws.{PutTo, put_start, put_next, put_all}
+use Rattle.little.proofs.EntryLaws.{PutTo}
 use Rattle.saved_test.proofs.Sizes.{record_length}
 use Rattle.saved_test.specs.Form.{header_size, record_size, record_bytes}
 use Rattle.bucket_test.specs.Turn.{no_record}
 use lib.ListN.{get_or}
-use native.Mathlib.Omega.{arith}
 use mathlib.Core.List.{List}
 use Prim.Native.Nat.{ℕ, ◌-◌}
 use Rattle.bucket_test.specs.declared.Threshold.{Threshold}
-use borrow.Author.Rules.{rules}
 use Rattle.saved_test.proofs.writing.write_records.Given as goal
 
 abbrev pub entry : List Threshold → ℕ → List ℕ

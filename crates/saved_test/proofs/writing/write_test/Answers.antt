@@ -2,7 +2,6 @@
 use mathlib.Core.Path.{sym, ◌∙◌}
 use Rattle.saved_test.specs.Writing.{saved, bytes_after}
 use Rattle.saved_test.proofs.WritingLaws.{write_some, write_put, counts_few, words_size, live_few}
-use borrow.Author.Rules.{rules}
 use Rattle.saved_test.proofs.writing.write_test.Goals as goal
 
 pub returns-then-refusal-ne0 : goal.returns-then-refusal-ne0

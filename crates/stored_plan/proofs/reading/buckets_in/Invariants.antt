@@ -1,8 +1,6 @@
 -- Both tables are filled up to place j.
 use Prim.Native.Nat.{◌-◌}
-use native.Mathlib.Omega.{arith}
-use borrow.Author.Rules.{rules}
-use Rattle.little.proofs.FilledLaws.{BothTo, both_none, both_next, both_all}
+use Rattle.little.proofs.FilledLaws.{BothTo}
 use Rattle.stored_plan.specs.Form.{bucket_entry_size, right_field}
 use Rattle.stored_plan.proofs.reading.buckets_in.Given as goal
 

@@ -1,5 +1,4 @@
 -- The three refusals of the definition, in its order.
-use borrow.Author.Rules.{rules}
 use Rattle.plan.specs.Places.{eq?}
 use Rattle.stored_plan.specs.Reading.{count_in, buckets_in, length_fits, form_refusal}
 use Rattle.stored_plan.proofs.Refusals.{first_three}

@@ -1,5 +1,4 @@
 -- The two tests of the definition, one after the other.
-use borrow.Author.Rules.{rules}
 use Rattle.plan.specs.Places.{eq?}
 use Rattle.plan.proofs.PlaceLaws.{eq?_complete, eq?_fails}
 use Rattle.stored_plan.specs.Reading.{count_in, offsets_fit}

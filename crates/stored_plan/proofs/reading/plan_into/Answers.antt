@@ -1,7 +1,6 @@
 -- Past each refusal that is not there, the refusal is the first of those left to judge.
 use mathlib.Core.Path.{sym, ◌∙◌}
 use native.Mathlib.Omega.{arith}
-use borrow.Author.Rules.{rules}
 use Rattle.stored_plan.proofs.Refusals.{into_some, into-plan, short, form-refused, past_form, form_says}
 use Rattle.stored_plan.proofs.reading.plan_into.Goals as goal
 

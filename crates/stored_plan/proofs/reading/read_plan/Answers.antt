@@ -1,6 +1,5 @@
 -- What `plan_into` left, handed back.
 use mathlib.Core.Path.{refl, ◌∙◌}
-use borrow.Author.Rules.{rules}
 use Rattle.stored_plan.proofs.Refusals.{back_some, back_none}
 use Rattle.stored_plan.proofs.reading.read_plan.Goals as goal
 

@@ -1,8 +1,6 @@
 -- Both tables are filled up to place i.
-use Prim.Native.Nat.{◌-◌}
 use native.Mathlib.Omega.{arith}
-use borrow.Author.Rules.{rules}
-use Rattle.little.proofs.FilledLaws.{BothTo, both_none, both_next, both_all}
+use Rattle.little.proofs.FilledLaws.{both_none, both_next, both_all}
 use Rattle.stored_plan.specs.Form.{header_size, threshold_entry_size, allowance_field}
 use Rattle.stored_plan.proofs.reading.thresholds_in.Goals as goal
 

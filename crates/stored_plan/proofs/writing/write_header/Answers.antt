@@ -1,7 +1,6 @@
 -- Its three pairs, one behind the other.
 use mathlib.Core.List.{◌++◌, append_assoc}
 use native.Mathlib.Omega.{arith}
-use borrow.Author.Rules.{rules}
 use lib.ListN.{length-append}
 use Rattle.little.specs.Little.{to_le}
 use Rattle.stored_plan.specs.Form.{header_size, header}

@@ -1,6 +1,5 @@
 -- The three of the definition, in its order.
 use mathlib.Core.Path.{sym}
-use borrow.Author.Rules.{rules}
 use Rattle.walk.specs.Numbers.{le?}
 use Rattle.plan.specs.Places.{eq?}
 use Rattle.stored_plan.specs.Writing.{write_refusal}

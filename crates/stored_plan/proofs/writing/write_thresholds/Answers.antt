@@ -1,9 +1,8 @@
 -- The entries before place i are put.
-use Prim.Native.Nat.{◌-◌}
 use native.Mathlib.Omega.{arith}
 use borrow.Author.Rules.{rules}
 use Rattle.stored_plan.specs.Form.{pair, threshold_entry_size, header_size, bucket_offset, threshold_entries}
-use Rattle.little.proofs.EntryLaws.{PutTo, put_start, put_next, put_all}
+use Rattle.little.proofs.EntryLaws.{put_start, put_next, put_all}
 use Rattle.stored_plan.proofs.FormLaws.{pair-length}
 use Rattle.stored_plan.proofs.writing.write_thresholds.Goals as goal
 
