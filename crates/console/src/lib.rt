@@ -6,4 +6,5 @@ mod feeding;
 mod input;
 pub mod line;
 pub mod program;
+mod reading;
 mod running;

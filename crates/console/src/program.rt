@@ -1,6 +1,7 @@
 // The program but for its write (rules 9): a plan, draws as they come, and one line.
 
 ghost use Rattle.std.specs.Prelude.{◌≡◌, ◌&&◌, length};
+ghost use Rattle.std.specs.Io.KnownBytes.{Consumes};
 ghost use Rattle.io.specs.Counts.{IsPrefixLen};
 ghost use Rattle.walk.specs.Numbers.{lt?};
 ghost use Rattle.bucket_test.specs.Draw.{outcome_of};
@@ -10,10 +11,14 @@ ghost use Rattle.console.specs.Program.{ComesTo, Prints, played, served};
 
 use crate::feeding::feed;
 use crate::line::{LINE_BUFFER, last_line, refused_line};
+use crate::reading::{fill, read_some};
 use crate::running::answer_open;
 use bucket_test::Drawn;
 use bucket_test::drawing::begin;
 use plan::Plan;
+use std::fs;
+use std::io::Read;
+use std::rt::Files;
 use stored_plan::FORM_LIMIT;
 use stored_plan::reading::read_plan;
 use walk::WIDE;
@@ -38,19 +43,20 @@ fn take_chunk(p: Plan, d: Drawn, words: &mut [u64], chunk: &mut [u8]) -> Fed
 }
 
 // One read, and the characters that it gave.
-fn take_some(p: Plan, d: Drawn, input: i32, words: &mut [u64]) -> Fed
-    ensures { ComesTo p (outcome_of d words.old) result.drawn words.new }
+fn take_some<R: Read>(p: Plan, d: Drawn, input: &mut R, words: &mut [u64]) -> Fed
+    ensures { (t : ComesTo p (outcome_of d words.old) result.drawn words.new)
+        × Consumes (R.remaining input.old) (R.remaining input.new) t.text }
 {
     let mut chunk = [0u8; 4096];
-    let got = libc::read(input, &mut chunk);
-    let n = io::count(got, &chunk);
-    take_chunk(p, d, words, &mut chunk[0..n])
+    let n = read_some(input, &mut chunk);
+    take_chunk(p, d, words, &mut chunk[..n])
 }
 
 // Reads up to an answer that is not `open`, or the end of input. A proved loop has to end: it counts its turns down, from a number that no
 // run uses up.
-fn take_all(p: Plan, d: Drawn, input: i32, words: &mut [u64]) -> Drawn
-    ensures { ComesTo p (outcome_of d words.old) result words.new }
+fn take_all<R: Read>(p: Plan, d: Drawn, input: &mut R, words: &mut [u64]) -> Drawn
+    ensures { (t : ComesTo p (outcome_of d words.old) result words.new)
+        × Consumes (R.remaining input.old) (R.remaining input.new) t.text }
 {
     let first = d.answer;
     let mut drawn = d;
@@ -67,19 +73,29 @@ fn take_all(p: Plan, d: Drawn, input: i32, words: &mut [u64]) -> Drawn
 }
 
 // A test of an accepted plan on the words lent to it, from its beginning to its line.
-fn play(p: Plan, input: i32, words: &mut [u64], out: &mut [u8; LINE_BUFFER]) -> usize
+fn play<R: Read>(p: Plan, input: &mut R, words: &mut [u64], out: &mut [u8; LINE_BUFFER]) -> usize
     ensures prefix_len { IsPrefixLen result out.new }
     ensures prints { Prints (played p words.old) result words.new out.old out.new }
+    ensures given { (r : Prints (played p words.old) result words.new out.old out.new)
+        × Consumes (R.remaining input.old) (R.remaining input.new) r.text }
 {
     let begun = begin(p, words);
     let last = take_all(p, begun, input, words);
     last_line(p, last, out)
 }
 
-// The program from its plan's bytes to its line: their refusal, or a test, which is lent the first 769 words for each threshold.
-pub fn serve(stored: &[u8], input: i32, words: &mut [u64], out: &mut [u8; LINE_BUFFER]) -> usize
+// The program from its plan's bytes to its line: their refusal, or a test, which is lent the first 769 words for each threshold. The text that it
+// is fed is what the input gave, which a clause can know of a reader over memory and not of the system's (`given`).
+pub fn serve<R: Read>(
+    stored: &[u8],
+    input: &mut R,
+    words: &mut [u64],
+    out: &mut [u8; LINE_BUFFER],
+) -> usize
     ensures prefix_len { IsPrefixLen result out.new }
     ensures prints { Prints (served stored.now words.old) result words.new out.old out.new }
+    ensures given { (r : Prints (served stored.now words.old) result words.new out.old out.new)
+        × Consumes (R.remaining input.old) (R.remaining input.new) r.text }
 {
     let got = read_plan(stored);
     if got.refusal > 0 {
@@ -97,15 +113,16 @@ pub fn serve(stored: &[u8], input: i32, words: &mut [u64], out: &mut [u8; LINE_B
 // `CutReading`).
 pub const PLAN_BUFFER: usize = FORM_LIMIT + 1;
 
-// The bytes of a file at the start of buf, as many as it takes; a file that is missing or cannot be read has none.
-pub fn load(path: &[u8], buf: &mut [u8]) -> usize
+// The bytes of a file at the start of buf, as many as it takes; a file that is missing or cannot be read has none. Nor has one whose name is
+// no UTF-8: the toolchain's files have names that are text.
+pub fn load<F: Files>(files: &F, path: &[u8], buf: &mut [u8]) -> usize
     ensures { IsPrefixLen result buf.new }
 {
-    let fd = os::open_read(path);
-    if fd < 0 {
+    let Ok(name) = str::from_utf8(path) else {
         return 0;
-    }
-    let n = io::read_full(fd, buf);
-    libc::close(fd);
-    n
+    };
+    let Ok(mut file) = fs::open(files, name) else {
+        return 0;
+    };
+    fill(&mut file, buf)
 }
