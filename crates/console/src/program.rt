@@ -113,14 +113,12 @@ pub fn serve<R: Read>(
 // `CutReading`).
 pub const PLAN_BUFFER: usize = FORM_LIMIT + 1;
 
-// The bytes of a file at the start of buf, as many as it takes; a file that is missing or cannot be read has none. Nor has one whose name is
-// no UTF-8: the toolchain's files have names that are text.
+// The bytes of a file at the start of buf, as many as it takes; a file that is missing or cannot be read has none. The toolchain's files have
+// names in UTF-8: any other name is taken as the empty one, which no file has.
 pub fn load<F: Files>(files: &F, path: &[u8], buf: &mut [u8]) -> usize
     ensures { IsPrefixLen result buf.new }
 {
-    let Ok(name) = str::from_utf8(path) else {
-        return 0;
-    };
+    let name = str::from_utf8(path).unwrap_or("");
     let Ok(mut file) = fs::open(files, name) else {
         return 0;
     };
