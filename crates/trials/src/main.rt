@@ -7,21 +7,27 @@ use bucket_test::drawing::{begin, draw};
 use console::line::{LINE_BUFFER, last_line};
 use console::program::{PLAN_BUFFER, load, serve};
 use plan::Plan;
+use std::fs;
 use std::rt::Files;
-use std::{fs, io};
 use stored_plan::reading::read_plan;
 use walk::WIDE;
 
+// A line that cannot be written is left out, and the next trial goes on.
+fn print<R: Print>(rt: &R, line: &[u8]) {
+    let _ = rt.write_all(line);
+}
+
 // A missing input has a line of its own: the program would print the one of an empty input.
-fn trial<R: Files + Print>(rt: &R, plan: &[u8], input: &str, words: &mut [u64]) -> io::Result<()> {
-    let Ok(mut file) = fs::open(rt, input) else {
-        return rt.write_all(b"no input\n");
+fn trial<R: Files + Print>(rt: &R, plan: &[u8], input: &[u8], words: &mut [u64]) {
+    let name = str::from_utf8(input).unwrap_or("");
+    let Ok(mut file) = fs::open(rt, name) else {
+        return print(rt, b"no input\n");
     };
     let mut stored = [0u8; PLAN_BUFFER];
     let mut line = [0u8; LINE_BUFFER];
     let k = load(rt, plan, &mut stored);
     let n = serve(&stored[..k], &mut file, words, &mut line);
-    rt.write_all(&line[..n])
+    print(rt, &line[..n])
 }
 
 // One draw more after a call's outcome, whatever its answer.
@@ -31,7 +37,7 @@ fn after(p: Plan, d: Drawn, words: &mut [u64], bit: u8) -> Drawn {
 }
 
 // One draw more to plan F, which five ones have ended: no program hands one over.
-fn after_the_end<R: Files + Print>(rt: &R, d: u8) -> io::Result<()> {
+fn after_the_end<R: Files + Print>(rt: &R, d: u8) {
     let mut bytes = [0u8; PLAN_BUFFER];
     let n = load(rt, b"f.plan", &mut bytes);
     let got = read_plan(&bytes[..n]);
@@ -46,29 +52,29 @@ fn after_the_end<R: Files + Print>(rt: &R, d: u8) -> io::Result<()> {
     let again = after(p, ended, &mut words, d);
     let mut out = [0u8; LINE_BUFFER];
     let len = last_line(p, again, &mut out);
-    rt.write_all(&out[..len])
+    print(rt, &out[..len])
 }
 
-fn main(rt: HostRuntime) -> io::Result<()> {
+fn main(rt: HostRuntime) {
     let mut words = [0u64; 7690];
-    trial(&rt, b"f.plan", "five", &mut words)?;
-    trial(&rt, b"f.plan", "zeros172", &mut words)?;
-    trial(&rt, b"f.plan", "zeros173", &mut words)?;
-    trial(&rt, b"n172.plan", "zeros172", &mut words)?;
-    trial(&rt, b"f.plan", "none", &mut words)?;
-    trial(&rt, b"empty.plan", "five", &mut words)?;
-    trial(&rt, b"missing.plan", "five", &mut words)?;
-    trial(&rt, b"long.plan", "five", &mut words)?;
-    trial(&rt, b"count0.plan", "five", &mut words)?;
-    trial(&rt, b"close.plan", "five", &mut words)?;
-    trial(&rt, b"apart.plan", "none", &mut words)?;
-    trial(&rt, b"narrower.plan", "five", &mut words)?;
-    trial(&rt, b"f.plan", "foreign", &mut words)?;
-    trial(&rt, b"f.plan", "newlines", &mut words)?;
-    trial(&rt, b"f.plan", "after", &mut words)?;
-    trial(&rt, b"f.plan", "far", &mut words)?;
-    trial(&rt, b"longest.plan", "none", &mut words)?;
-    trial(&rt, b"overlong.plan", "none", &mut words)?;
-    after_the_end(&rt, 2)?;
-    after_the_end(&rt, 1)
+    trial(&rt, b"f.plan", b"five", &mut words);
+    trial(&rt, b"f.plan", b"zeros172", &mut words);
+    trial(&rt, b"f.plan", b"zeros173", &mut words);
+    trial(&rt, b"n172.plan", b"zeros172", &mut words);
+    trial(&rt, b"f.plan", b"none", &mut words);
+    trial(&rt, b"empty.plan", b"five", &mut words);
+    trial(&rt, b"missing.plan", b"five", &mut words);
+    trial(&rt, b"long.plan", b"five", &mut words);
+    trial(&rt, b"count0.plan", b"five", &mut words);
+    trial(&rt, b"close.plan", b"five", &mut words);
+    trial(&rt, b"apart.plan", b"none", &mut words);
+    trial(&rt, b"narrower.plan", b"five", &mut words);
+    trial(&rt, b"f.plan", b"foreign", &mut words);
+    trial(&rt, b"f.plan", b"newlines", &mut words);
+    trial(&rt, b"f.plan", b"after", &mut words);
+    trial(&rt, b"f.plan", b"far", &mut words);
+    trial(&rt, b"longest.plan", b"none", &mut words);
+    trial(&rt, b"overlong.plan", b"none", &mut words);
+    after_the_end(&rt, 2);
+    after_the_end(&rt, 1);
 }
