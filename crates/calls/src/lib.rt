@@ -1,4 +1,4 @@
-// The calls from C over saved tests (saved 6, 7): bytes and numbers only, and nothing kept between them.
+// The calls from C over saved tests (saved 6, 7), which `calls_c` exports: bytes and numbers only, and nothing kept between them.
 #![tactic(auto)]
 
 mod answers;
@@ -51,8 +51,7 @@ pub struct Taken {
 }
 
 // Any plan bytes and any lent bytes may be handed in.
-#[unsafe(no_mangle)]
-pub extern "C" fn vimorake_begin(plan: &[u8], lent: &mut [u8]) -> u32
+pub fn vimorake_begin(plan: &[u8], lent: &mut [u8]) -> u32
     ensures { (result ≡ (called_begin plan.now lent.old).number)
         × (lent.new ≡ (called_begin plan.now lent.old).bytes) }
 {
@@ -114,8 +113,7 @@ fn draw_on<'a>(
 }
 
 // Any plan bytes, saved bytes, draw and lent bytes may be handed in.
-#[unsafe(no_mangle)]
-pub extern "C" fn vimorake_draw(plan: &[u8], saved: &[u8], draw: u32, lent: &mut [u8]) -> u32
+pub fn vimorake_draw(plan: &[u8], saved: &[u8], draw: u32, lent: &mut [u8]) -> u32
     ensures { (result ≡ (called_draw plan.now saved.now draw lent.old).number)
         × (lent.new ≡ (called_draw plan.now saved.now draw lent.old).bytes) }
 {

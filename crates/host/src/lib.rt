@@ -1,5 +1,5 @@
-// The entries of the library as C functions, for the comparison of `tests/`: any plan, state, words, bytes and run go in, and what an
-// entry hands back comes out.
+// The entries of the library on C's structs, for the comparison of `tests/`, which `host_c` exports: any plan, state, words, bytes and run go in,
+// and what an entry hands back comes out.
 
 #![tactic(auto)]
 
@@ -111,38 +111,33 @@ pub struct HostRun {
     pub ones: u32,
 }
 
-#[unsafe(no_mangle)]
-pub extern "C" fn host_plan_refusal(p: HostPlan) -> u32
+pub fn host_plan_refusal(p: HostPlan) -> u32
     ensures { result ≡ plan_refusal (plan_in p) }
 {
     plan_refusal(plan_in(p))
 }
 
-#[unsafe(no_mangle)]
-pub extern "C" fn host_begin(p: HostPlan, words: &mut [u64]) -> HostState
+pub fn host_begin(p: HostPlan, words: &mut [u64]) -> HostState
     ensures { (result ≡ drawn_out (drawn_of (begun (plan_in p) words.old)))
         × (words.new ≡ (begun (plan_in p) words.old).words) }
 {
     drawn_out(begin(plan_in(p), words))
 }
 
-#[unsafe(no_mangle)]
-pub extern "C" fn host_draw(p: HostPlan, s: HostState, words: &mut [u64], d: u8) -> HostState
+pub fn host_draw(p: HostPlan, s: HostState, words: &mut [u64], d: u8) -> HostState
     ensures { (result ≡ drawn_out (drawn_of (drawn (plan_in p) (state_in s) words.old d)))
         × (words.new ≡ (drawn (plan_in p) (state_in s) words.old d).words) }
 {
     drawn_out(draw(plan_in(p), state_in(s), words, d))
 }
 
-#[unsafe(no_mangle)]
-pub extern "C" fn host_report_on(p: HostPlan, s: HostState) -> HostReport
+pub fn host_report_on(p: HostPlan, s: HostState) -> HostReport
     ensures { result ≡ report_out (report (plan_in p) (state_in s)) }
 {
     report_out(report_on(plan_in(p), state_in(s)))
 }
 
-#[unsafe(no_mangle)]
-pub extern "C" fn host_read_plan(bytes: &[u8]) -> HostPlan
+pub fn host_read_plan(bytes: &[u8]) -> HostPlan
     ensures { result ≡ plan_out (decoded bytes.now).refusal (decoded bytes.now).plan }
 {
     let read = read_plan(bytes);
@@ -150,8 +145,7 @@ pub extern "C" fn host_read_plan(bytes: &[u8]) -> HostPlan
     plan_out(read.refusal, plan)
 }
 
-#[unsafe(no_mangle)]
-pub extern "C" fn host_write_plan(p: HostPlan, bytes: &mut [u8]) -> HostWritten
+pub fn host_write_plan(p: HostPlan, bytes: &mut [u8]) -> HostWritten
     ensures { (result.refusal ≡ (written (plan_in p) bytes.old).refusal)
         × (result.size ≡ (written (plan_in p) bytes.old).size)
         × (bytes.new ≡ bytes_after (plan_in p) bytes.old) }
@@ -163,21 +157,14 @@ pub extern "C" fn host_write_plan(p: HostPlan, bytes: &mut [u8]) -> HostWritten
     }
 }
 
-#[unsafe(no_mangle)]
-pub extern "C" fn host_read_test(p: HostPlan, bytes: &[u8], words: &mut [u64]) -> HostTest
+pub fn host_read_test(p: HostPlan, bytes: &[u8], words: &mut [u64]) -> HostTest
     ensures { (result ≡ loaded_out (loaded (plan_in p) bytes.now words.old))
         × (words.new ≡ words_after (plan_in p) bytes.now words.old) }
 {
     loaded_out(read_test(plan_in(p), bytes, words))
 }
 
-#[unsafe(no_mangle)]
-pub extern "C" fn host_write_test(
-    p: HostPlan,
-    s: HostState,
-    words: &[u64],
-    bytes: &mut [u8],
-) -> HostWritten
+pub fn host_write_test(p: HostPlan, s: HostState, words: &[u64], bytes: &mut [u8]) -> HostWritten
     ensures { (result.refusal ≡ (saved (plan_in p) (state_in s) words.now bytes.old).refusal)
         × (result.size ≡ (saved (plan_in p) (state_in s) words.now bytes.old).size)
         × (bytes.new ≡ saveBytes (plan_in p) (state_in s) words.now bytes.old) }

@@ -54,15 +54,13 @@ fn run_out(o: Drawn) -> HostRun
     }
 }
 
-#[unsafe(no_mangle)]
-pub extern "C" fn host_count_begin(h: u32, n: u32) -> HostRun
+pub fn host_count_begin(h: u32, n: u32) -> HostRun
     ensures { result ≡ run_out (begun h n) }
 {
     run_out(begin(h, n))
 }
 
-#[unsafe(no_mangle)]
-pub extern "C" fn host_count_draw(r: HostRun, d: u8) -> HostRun
+pub fn host_count_draw(r: HostRun, d: u8) -> HostRun
     ensures { result ≡ run_out (drawn (run_in r) d) }
 {
     let run = Run {
