@@ -14,7 +14,7 @@ use Rattle.walk.proofs.Tests.{test, Le?, le, gt, clash}
 use Rattle.walk.proofs.Chances.{meets_says, allowed_always, chances_by_rounding, chances}
 use Rattle.walk.proofs.WalkFacts.{walk_facts}
 use Rattle.walk.proofs.RecordLaws.{mark_nil, narrow_start}
-use Rattle.plan.specs.Places.{unless, first_refusal}
+use Rattle.refusals.specs.Refusals.{unless, first_refusal}
 use Rattle.plan.specs.Plan.{threshold_at, spending_of, plan_refusal, Accepted}
 use Rattle.bucket_choice.specs.Choice.{chosen_bucket}
 use Rattle.bucket_test.specs.Words.{part_at, Stands}

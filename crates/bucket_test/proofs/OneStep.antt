@@ -19,7 +19,7 @@ use Rattle.walk.specs.declared.Walked.{Walked}
 use Rattle.walk.proofs.WalkFacts.{step_facts}
 use Rattle.walk.proofs.SoundnessLaws.{padded-length, boundaries_say, IsSound, checked, narrow}
 use Rattle.walk.proofs.RecordLaws.{judged_same, judged_on, judged_open}
-use Rattle.plan.specs.Places.{unless, first_refusal}
+use Rattle.refusals.specs.Refusals.{unless, first_refusal}
 use Rattle.plan.specs.Plan.{threshold_at, spending_of, plan_refusal, Accepted}
 use Rattle.bucket_test.specs.Words.{part_at, words_fit, Stands}
 use Rattle.bucket_test.specs.Turn.{no_record, record_at, marked, walked_on, turn_record, turn_part}

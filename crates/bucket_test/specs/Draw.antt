@@ -2,7 +2,8 @@
 use Rattle.std.specs.Prelude.{Bool, not, ◌&&◌, List, [], ◌∷◌, ℕ, zero, suc, ◌+◌, replicate}
 use Rattle.walk.specs.Numbers.{le?}
 use Rattle.walk.specs.Record.{start_part}
-use Rattle.plan.specs.Places.{all_to, unless, first_refusal, over_to, join_to}
+use Rattle.plan.specs.Places.{all_to, over_to, join_to}
+use Rattle.refusals.specs.Refusals.{unless, first_refusal}
 use Rattle.plan.specs.Plan.{count_limit, plan_refusal}
 use Rattle.bucket_choice.specs.Choice.{Choice, chosen_bucket}
 use Rattle.bucket_test.specs.Words.{words_fit}

@@ -7,7 +7,7 @@ use Rattle.walk.specs.Walk.{walk, lower}
 use Rattle.walk.specs.Row.{upper, rows}
 use Rattle.walk.specs.declared.Mark.{Mark}
 use Rattle.walk.specs.declared.Mark.TheVariants.{Open, Above, AtMost}
-use Rattle.plan.specs.Places.{unless}
+use Rattle.refusals.specs.Refusals.{unless}
 use Rattle.plan.specs.Plan.{count_limit, threshold_at, spending_of, plan_refusal}
 use Rattle.plan.specs.PlanF.{plan_f}
 use Rattle.plan.specs.Trials.{with_points, plan_of_points}

@@ -8,7 +8,8 @@ use native.Mathlib.Omega.{arith}
 use Rattle.walk.specs.Numbers.{lt?}
 use Rattle.walk.specs.Units.{million, horizon_limit}
 use Rattle.walk.proofs.Tests.{le?_complete, le?_fails}
-use Rattle.plan.specs.Places.{eq?, first_refusal}
+use Rattle.plan.specs.Places.{eq?}
+use Rattle.refusals.specs.Refusals.{first_refusal}
 use Rattle.plan.specs.Plan.{count_limit, plan_refusal}
 use Rattle.plan.specs.declared.Plan.{Plan}
 use Rattle.plan.proofs.PlaceLaws.{le_or_lt, any_cong, largest_cong, smallest_cong}

@@ -8,7 +8,8 @@ use lib.ListN.{length, drop, length-replicate}
 use lib.Seq.{take_at}
 use Rattle.walk.specs.Units.{wide}
 use Rattle.walk.proofs.Tests.{le?_complete, le?_fails}
-use Rattle.plan.specs.Places.{eq?, first_refusal}
+use Rattle.plan.specs.Places.{eq?}
+use Rattle.refusals.specs.Refusals.{first_refusal}
 use Rattle.plan.specs.Plan.{Accepted}
 use Rattle.plan.specs.declared.Plan.{Plan}
 use Rattle.plan.proofs.PlaceLaws.{le_or_lt, eq?_complete, eq?_fails}

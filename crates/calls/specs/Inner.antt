@@ -6,7 +6,8 @@ use Rattle.walk.specs.Units.{million, allowance_limit}
 use Rattle.walk.specs.Spending.{portioned}
 use Rattle.walk.specs.declared.Portion.{Portion}
 use Rattle.walk.specs.Strings.{Upper, Lower, is_on}
-use Rattle.plan.specs.Places.{first_refusal, any_to, largest_to, smallest_to, join_to}
+use Rattle.plan.specs.Places.{any_to, largest_to, smallest_to, join_to}
+use Rattle.refusals.specs.Refusals.{first_refusal}
 use Rattle.plan.specs.Plan.{count_limit, plan_refusal}
 use Rattle.plan.specs.Tables.{portion_of}
 use Rattle.plan.specs.declared.Plan.{Plan}

@@ -10,7 +10,8 @@ use Rattle.walk.specs.Numbers.{choose}
 use Rattle.walk.specs.Units.{million, allowance_limit, horizon_limit}
 use Rattle.walk.specs.Spending.{IsSpending}
 use Rattle.walk.proofs.SpendingLaws.{spending_is}
-use Rattle.plan.specs.Places.{eq?, unless, first_refusal}
+use Rattle.plan.specs.Places.{eq?}
+use Rattle.refusals.specs.Refusals.{unless, first_refusal}
 use Rattle.plan.specs.Plan.{count_limit, bucket_limit, point_limit, threshold_limit, least_difference, delay_limit, counts_fit, threshold_at, allowance_at, left_at, right_at, step_at, share_at, spending_of, rule1, above_before, rule2, rule14, rule3, rule4, after_before, point_fits, rule16, permitted, bucket_fits, rule5, rule6, plan_refusal, Apart, PointsSound, Permitted, Covered, Accepted, AcceptedTheorem, TooCloseTheorem, BadPointTheorem, ApartTheorem}
 use Rattle.plan.specs.declared.Plan.{Plan}
 use Rattle.plan.proofs.PlaceLaws.{both, either, neither, le_reads, eq_reads, within_reads, all_say, any_say, none_says, number_absent, number_here, number_later}

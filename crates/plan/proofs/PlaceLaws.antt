@@ -9,7 +9,8 @@ use native.Mathlib.Omega.{arith}
 use borrow.Author.Tests.{eqb-true, eqb-false, eq-eqb, ne_eqb, not-true, not-false}
 use Rattle.walk.specs.Numbers.{le?}
 use Rattle.walk.proofs.Tests.{Le?, le, gt, test, clash, and_true, le?_sound, le?_complete, le?_fails}
-use Rattle.plan.specs.Places.{eq?, within, all_to, any_to, largest_to, smallest_to, unless, first_refusal}
+use Rattle.plan.specs.Places.{eq?, within, all_to, any_to, largest_to, smallest_to}
+use Rattle.refusals.specs.Refusals.{unless, first_refusal}
 
 -- ---- Booleans
 

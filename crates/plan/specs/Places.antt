@@ -1,4 +1,4 @@
--- Tests by place, refusals in order, and lists made place by place: the small vocabulary of the other files.
+-- Tests by place, and lists made place by place: the small vocabulary of the other files.
 use Rattle.std.specs.Prelude.{Bool, true, false, ◌&&◌, ◌||◌, List, [], ◌∷◌, ◌++◌, ℕ, zero, suc, max, min, eqb}
 use Rattle.walk.specs.Numbers.{le?}
 
@@ -26,17 +26,6 @@ largest_to (suc n) f least = max (largest_to n f least) (f n)
 unfoldable pub smallest_to : ℕ → (ℕ → ℕ) → ℕ → ℕ
 smallest_to zero f most = most
 smallest_to (suc n) f most = min (smallest_to n f most) (f n)
-
--- the number of a refusal unless its rule is kept, else 0
-abbrev pub unless : Bool → ℕ → ℕ
-unless true r = 0
-unless false r = r
-
--- of refusals in the order in which they are judged, the first; 0 where there is none
-abbrev pub first_refusal : List ℕ → ℕ
-first_refusal [] = 0
-first_refusal (zero ∷ rs) = first_refusal rs
-first_refusal (suc r ∷ rs) = suc r
 
 -- the first k entries replaced, each by f of its place and itself; the rest as they are
 unfoldable pub over_to : {A : Type 0} → ℕ → (ℕ → A → A) → List A → List A

@@ -3,7 +3,8 @@ use Rattle.std.specs.Prelude.{Bool, true, not, ◌&&◌, ◌||◌, [], ◌∷◌
 use Rattle.walk.specs.Numbers.{le?, lt?, choose}
 use Rattle.walk.specs.Units.{million, allowance_limit, horizon_limit}
 use Rattle.walk.specs.Spending.{spending, IsSpending}
-use Rattle.plan.specs.Places.{eq?, within, all_to, any_to, unless, first_refusal}
+use Rattle.plan.specs.Places.{eq?, within, all_to, any_to}
+use Rattle.refusals.specs.Refusals.{unless, first_refusal}
 use Rattle.plan.specs.Points.{point_spending, share_by, LastPoint}
 use Rattle.plan.specs.declared.Plan.{Plan}
 

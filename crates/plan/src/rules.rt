@@ -1,12 +1,13 @@
 // The plan's rules: refusals 1, 2, 14, 3, 4, 16, 5, 6 in this order, each over all entries before the next (rules 1.4, 8.2).
 ghost use Rattle.std.specs.Prelude.{◌≡◌, [], ◌∷◌, ℕ, suc, ◌≤◌, ◌<◌, length, get_or};
-ghost use Rattle.plan.specs.Places.{eq?, within, all_to, any_to, unless, first_refusal};
+ghost use Rattle.plan.specs.Places.{eq?, within, all_to, any_to};
+ghost use Rattle.refusals.specs.Refusals.{refusal_in};
 ghost use Rattle.plan.specs.Plan.{count_limit, bucket_limit, counts_fit, left_at, right_at, rule2, rule14, rule3, rule4, rule16, permitted, bucket_fits, rule5, covered_above, rule6, plan_refusal};
-ghost use Rattle.plan.specs.Tables.{plan_with};
 
 use crate::{
     BUCKET_LIMIT, COUNT_LIMIT, DELAY_LIMIT, LEAST_DIFFERENCE, POINT_LIMIT, Plan, THRESHOLD_LIMIT,
 };
+use refusals::{Refusal, ensure};
 use walk::{ALLOWANCE_LIMIT, HORIZON_LIMIT, MILLION};
 
 // The limits of the counts, as numbers like them.
@@ -231,86 +232,32 @@ fn right_ends_covered<'a>(
     true
 }
 
-// Rules 5 and 6 of a plan with the first `count` of these thresholds, of at most ten, and the first b of these buckets, of at most sixteen: the
-// first that is broken, 0 for none. Judged after rule 1.
-fn buckets_refusal<'a>(
-    ts: &'a [u32; COUNT_LIMIT],
-    count: usize,
+// Rule 6 of a plan with the first b of these buckets, of at most sixteen: some bucket begins at 0, and past it nothing is left out.
+fn buckets_cover<'a>(
     ls: &'a [u32; BUCKET_LIMIT],
     rs: &'a [u32; BUCKET_LIMIT],
     b: usize,
-) -> u32
-    requires { (count ≤ count_limit) × (b ≤ bucket_limit) }
-    ensures { (p : Plan) → p.count ≡ count → p.thresholds ≡ ts.now → p.buckets ≡ b → p.left ≡ ls.now → p.right ≡ rs.now
-        → result ≡ first_refusal (unless (rule5 p) 5 ∷ unless (rule6 p) 6 ∷ []) }
+) -> bool
+    requires { b ≤ bucket_limit }
+    ensures { (p : Plan) → p.buckets ≡ b → p.left ≡ ls.now → p.right ≡ rs.now → result ≡ rule6 p }
 {
-    if !buckets_fit(ts, count, ls, rs, b) {
-        return 5;
-    }
-    // Rule 6: some bucket begins at 0, and past it nothing is left out.
-    if !is_among(ls, b, 0) {
-        return 6;
-    }
-    if !right_ends_covered(ls, rs, b) {
-        return 6;
-    }
-    0
+    is_among(ls, b, 0) && right_ends_covered(ls, rs, b)
 }
 
-// The refusal of a plan of these numbers and tables, 0 for an accepted one: any may be handed in.
-pub fn tables_refusal<'a>(
-    count: u32,
-    buckets: u32,
-    delay: u32,
-    horizon: u32,
-    points: u32,
-    thresholds: &'a [u32; COUNT_LIMIT],
-    allowances: &'a [u64; COUNT_LIMIT],
-    left: &'a [u32; BUCKET_LIMIT],
-    right: &'a [u32; BUCKET_LIMIT],
-    steps: &'a [u32; POINT_LIMIT],
-    shares: &'a [u32; POINT_LIMIT],
-) -> u32
-    ensures { result ≡ plan_refusal (plan_with count buckets delay horizon points thresholds.now allowances.now left.now right.now
-        steps.now shares.now) }
-{
-    if !counts_fit(count, buckets) {
-        return 1;
+impl Plan {
+    // Whether the plan keeps the rules: any plan may be handed in.
+    pub fn judge(&self) -> Result<(), Refusal>
+        ensures { refusal_in result ≡ plan_refusal self.now }
+    {
+        let k = self.count as usize;
+        let b = self.buckets as usize;
+        ensure(counts_fit(self.count, self.buckets), Refusal::Counts)?;
+        ensure(thresholds_rise(&self.thresholds, k), Refusal::Thresholds)?;
+        ensure(thresholds_apart(&self.thresholds, k), Refusal::TooClose)?;
+        ensure(allowances_fit(&self.allowances, k), Refusal::Allowances)?;
+        ensure(times_fit(self.delay, self.horizon), Refusal::Times)?;
+        ensure(points_fit(self.points, self.horizon, &self.steps, &self.shares), Refusal::Points)?;
+        ensure(buckets_fit(&self.thresholds, k, &self.left, &self.right, b), Refusal::Buckets)?;
+        ensure(buckets_cover(&self.left, &self.right, b), Refusal::Cover)
     }
-    let k = count as usize;
-    if !thresholds_rise(thresholds, k) {
-        return 2;
-    }
-    if !thresholds_apart(thresholds, k) {
-        return 14;
-    }
-    if !allowances_fit(allowances, k) {
-        return 3;
-    }
-    if !times_fit(delay, horizon) {
-        return 4;
-    }
-    if !points_fit(points, horizon, steps, shares) {
-        return 16;
-    }
-    buckets_refusal(thresholds, k, left, right, buckets as usize)
-}
-
-// The refusal of a plan, 0 for an accepted one: any plan may be handed in.
-pub fn plan_refusal(p: Plan) -> u32
-    ensures { result ≡ plan_refusal p }
-{
-    tables_refusal(
-        p.count,
-        p.buckets,
-        p.delay,
-        p.horizon,
-        p.points,
-        &p.thresholds,
-        &p.allowances,
-        &p.left,
-        &p.right,
-        &p.steps,
-        &p.shares,
-    )
 }

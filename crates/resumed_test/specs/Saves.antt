@@ -5,7 +5,7 @@ use Rattle.walk.specs.Walk.{Walk, lower, walk}
 use Rattle.walk.specs.Strings.{Draws, ones, last_step}
 use Rattle.walk.specs.declared.Mark.TheVariants.{Open}
 use Rattle.walk.specs.declared.Walked.{Walked}
-use Rattle.plan.specs.Places.{first_refusal}
+use Rattle.refusals.specs.Refusals.{first_refusal}
 use Rattle.plan.specs.Plan.{threshold_at, spending_of, Accepted}
 use Rattle.bucket_test.specs.Words.{part_at, Stands}
 use Rattle.bucket_test.specs.Turn.{record_at}

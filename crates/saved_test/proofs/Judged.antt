@@ -20,7 +20,8 @@ use Rattle.walk.specs.declared.Walked.{Walked}
 use Rattle.walk.proofs.Tests.{and_true, le?_sound}
 use Rattle.walk.proofs.Lists.{all_get_d}
 use Rattle.walk.proofs.SoundnessLaws.{boundaries_say}
-use Rattle.plan.specs.Places.{within, unless}
+use Rattle.plan.specs.Places.{within}
+use Rattle.refusals.specs.Refusals.{unless}
 use Rattle.plan.specs.Plan.{spending_of, plan_refusal, Accepted}
 use Rattle.bucket_test.specs.Words.{part_at, words_fit}
 use Rattle.bucket_test.specs.Turn.{record_at, record_sound}

@@ -17,7 +17,8 @@ use Rattle.walk.proofs.SoundnessLaws.{boundaries_say}
 use Rattle.walk.proofs.Tests.{and_true, le?_complete, le?_fails}
 use lib.Dec.{eqb}
 use lib.IntN.{ℤ}
-use Rattle.plan.specs.Places.{eq?, all_to, unless, first_refusal, join_to}
+use Rattle.plan.specs.Places.{eq?, all_to, join_to}
+use Rattle.refusals.specs.Refusals.{unless, first_refusal}
 use Rattle.plan.proofs.PlaceLaws.{eq?_complete, eq?_fails, eq_reads, all_reads, all_cong, first_some, none_both, none_says, last_says}
 use mir.Syntax.{w32}
 use mir.Val.{to_z, of_z}

@@ -9,7 +9,7 @@ use lib.ListN.{length}
 use Rattle.walk.specs.Units.{wide}
 use Rattle.walk.specs.declared.Walked.{Walked}
 use Rattle.walk.proofs.Tests.{clash}
-use Rattle.plan.specs.Places.{unless, first_refusal}
+use Rattle.refusals.specs.Refusals.{unless, first_refusal}
 use Rattle.plan.specs.Plan.{plan_refusal}
 use Rattle.plan.proofs.PlaceLaws.{both, either, eq_reads, all_say, within_reads, first_some, none_both, none_says, last_says, number_absent, number_here, number-after}
 use Rattle.plan.proofs.AcceptedLaws.{plan_other}

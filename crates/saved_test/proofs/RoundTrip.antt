@@ -6,7 +6,7 @@ use Prim.Native.Nat.{ℕ, zero, suc, ◌≤◌}
 use lib.ListN.{length, take, drop, get_or}
 use lib.Seq.{get_or-take, take_at}
 use Rattle.walk.specs.Numbers.{le?}
-use Rattle.plan.specs.Places.{unless}
+use Rattle.refusals.specs.Refusals.{unless}
 use Rattle.plan.specs.declared.Plan.{Plan}
 use Rattle.plan.proofs.PlaceLaws.{none_both, last_says, le_reads}
 use Rattle.plan.proofs.PlaceLists.{join_cong}

@@ -9,7 +9,8 @@ use lib.ListN.{length, drop, get_or, length-append}
 use mir.Syntax.{w32}
 use mir.Val.{of_z}
 use Rattle.walk.specs.Units.{wide}
-use Rattle.plan.specs.Places.{unless, join_to}
+use Rattle.plan.specs.Places.{join_to}
+use Rattle.refusals.specs.Refusals.{unless}
 use Rattle.plan.specs.Plan.{count_limit, plan_refusal}
 use Rattle.bucket_test.specs.Words.{part_at, words_fit}
 use Rattle.bucket_test.specs.Turn.{no_record, record_at}

@@ -6,7 +6,8 @@ use Rattle.walk.specs.Units.{wide}
 use Rattle.walk.specs.declared.Mark.{Mark}
 use Rattle.walk.specs.declared.Mark.TheVariants.{Open, Above, AtMost}
 use Rattle.walk.specs.declared.Walked.{Walked}
-use Rattle.plan.specs.Places.{eq?, within, all_to, unless, first_refusal, over_to, join_to}
+use Rattle.plan.specs.Places.{eq?, within, all_to, over_to, join_to}
+use Rattle.refusals.specs.Refusals.{unless, first_refusal}
 use Rattle.plan.specs.Plan.{count_limit, plan_refusal}
 use Rattle.plan.specs.declared.Plan.{Plan}
 use Rattle.bucket_test.specs.Words.{words_fit}

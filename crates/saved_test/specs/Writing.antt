@@ -1,7 +1,7 @@
 -- Writing a test into lent bytes (saved 2).
 use Rattle.std.specs.Prelude.{List, [], ◌∷◌, ◌++◌, ℕ, zero, suc, length, drop}
 use Rattle.walk.specs.Numbers.{le?}
-use Rattle.plan.specs.Places.{unless, first_refusal}
+use Rattle.refusals.specs.Refusals.{unless, first_refusal}
 use Rattle.plan.specs.Plan.{plan_refusal}
 use Rattle.plan.specs.declared.Plan.{Plan}
 use Rattle.bucket_test.specs.Words.{words_fit}

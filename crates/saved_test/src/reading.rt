@@ -3,7 +3,8 @@ ghost use Rattle.std.specs.Prelude.{◌≡◌, ◌&&◌, [], ◌∷◌, ℕ, ◌
 ghost use Rattle.walk.specs.Units.{million, wide, allowance_limit, horizon_limit};
 ghost use Rattle.walk.specs.Spending.{portioned};
 ghost use Rattle.walk.specs.Weighing.{Weighs};
-ghost use Rattle.plan.specs.Places.{eq?, all_to, unless, first_refusal, over_to, join_to};
+ghost use Rattle.plan.specs.Places.{eq?, all_to, over_to, join_to};
+ghost use Rattle.refusals.specs.Refusals.{unless, first_refusal};
 ghost use Rattle.plan.specs.Plan.{count_limit, plan_refusal};
 ghost use Rattle.plan.specs.Tables.{portion_of};
 ghost use Rattle.bucket_test.specs.Turn.{start_record, record_sound};

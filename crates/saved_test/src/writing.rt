@@ -2,7 +2,8 @@
 ghost use Rattle.std.specs.Prelude.{◌≡◌, ◌++◌, ℕ, ◌+◌, ◌*◌, ◌≤◌, ◌<◌, length, get_or};
 ghost use Rattle.walk.specs.Units.{wide};
 ghost use Rattle.walk.specs.Numbers.{le?};
-ghost use Rattle.plan.specs.Places.{unless, join_to};
+ghost use Rattle.plan.specs.Places.{join_to};
+ghost use Rattle.refusals.specs.Refusals.{unless};
 ghost use Rattle.plan.specs.Plan.{count_limit};
 ghost use Rattle.bucket_test.specs.Words.{part_at};
 ghost use Rattle.bucket_test.specs.Turn.{no_record, record_at};

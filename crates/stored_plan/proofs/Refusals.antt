@@ -8,7 +8,8 @@ use native.Mathlib.Omega.{arith}
 use lib.ListN.{length, drop}
 use Rattle.walk.specs.Numbers.{le?}
 use Rattle.walk.proofs.Tests.{le?_complete, le?_fails}
-use Rattle.plan.specs.Places.{eq?, unless, first_refusal}
+use Rattle.plan.specs.Places.{eq?}
+use Rattle.refusals.specs.Refusals.{unless, first_refusal}
 use Rattle.plan.specs.Plan.{counts_fit, plan_refusal}
 use Rattle.plan.specs.declared.Plan.{Plan}
 use Rattle.plan.proofs.PlaceLaws.{both, le_reads, eq?_fails, eq_reads, first_some, first_one, same_number, none_both, none_says, last_says, number_absent, number_here, number-after}

@@ -1,7 +1,8 @@
 -- Reading a stored plan: any bytes give a plan or a refusal (rules 2.2).
 use Rattle.std.specs.Prelude.{Bool, ◌&&◌, List, [], ◌∷◌, ℕ, zero, suc, ◌+◌, length, replicate}
 use Rattle.walk.specs.Numbers.{le?}
-use Rattle.plan.specs.Places.{eq?, unless, first_refusal}
+use Rattle.plan.specs.Places.{eq?}
+use Rattle.refusals.specs.Refusals.{unless, first_refusal}
 use Rattle.plan.specs.Plan.{count_limit, bucket_limit, point_limit, counts_fit, plan_refusal}
 use Rattle.plan.specs.declared.Plan.{Plan}
 use Rattle.little.specs.Little.{field, column, filled}

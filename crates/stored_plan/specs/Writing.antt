@@ -1,7 +1,8 @@
 -- Writing a plan into lent bytes (rules 2.3).
 use Rattle.std.specs.Prelude.{List, [], ◌∷◌, ◌++◌, ℕ, zero, suc, length, drop}
 use Rattle.walk.specs.Numbers.{le?}
-use Rattle.plan.specs.Places.{eq?, unless, first_refusal}
+use Rattle.plan.specs.Places.{eq?}
+use Rattle.refusals.specs.Refusals.{unless, first_refusal}
 use Rattle.plan.specs.Plan.{plan_refusal}
 use Rattle.plan.specs.declared.Plan.{Plan}
 use Rattle.stored_plan.specs.Form.{form_size, encoded}

@@ -1,6 +1,6 @@
 // Refusals in the order in which they are judged (rules 8.2).
 ghost use Rattle.std.specs.Prelude.{◌≡◌, [], ◌∷◌};
-ghost use Rattle.plan.specs.Places.{unless, first_refusal};
+ghost use Rattle.refusals.specs.Refusals.{unless, first_refusal};
 
 // The number of a refusal unless its rule is kept, else 0.
 pub(crate) fn unless(kept: bool, number: u32) -> u32
