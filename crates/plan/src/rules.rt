@@ -261,3 +261,13 @@ impl Plan {
         ensure(buckets_cover(&self.left, &self.right, b), Refusal::Cover)
     }
 }
+
+// The number of that rule, 0 for none.
+pub fn plan_refusal(p: Plan) -> u32
+    ensures { result ≡ plan_refusal p }
+{
+    match p.judge() {
+        Ok(()) => 0,
+        Err(refusal) => refusal.number(),
+    }
+}

@@ -57,3 +57,14 @@ pub fn portion_at<'a>(
         denominator: MILLION as u64,
     }
 }
+
+impl Plan {
+    // The portion of each allowance that may have been spent after n draws: the share of the last point at or before n, in millionths, where there are
+    // points; else n / (n + delay).
+    pub fn portion_at(&self, n: u32) -> Portion
+        requires { self.now.points ≤ point_limit }
+        ensures { result ≡ portion_of self.now n }
+    {
+        portion_at(self.delay, self.points, &self.steps, &self.shares, n)
+    }
+}

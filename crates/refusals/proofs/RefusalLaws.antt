@@ -1,10 +1,12 @@
--- Laws of refusals in order (specs/Refusals): what a rule that was passed, and one that was not, leave of the first refusal.
-use mathlib.Core.Path.{◌≡◌, refl, sym}
+-- Laws of refusals (specs/Refusals): what `ensure` and `?` tell of the rules that were judged.
+use mathlib.Core.Path.{◌≡◌, refl, sym, ◌∙◌}
 use mathlib.Core.Bool.{Bool, true, false}
-use mathlib.Core.List.{List, [], ◌∷◌}
 use Prim.Native.Nat.{ℕ, zero, suc, ◌≤◌}
 use native.Mathlib.Omega.{arith}
-use Rattle.refusals.specs.Refusals.{number_of, unless, first_refusal}
+use Rattle.std.specs.Prelude.{Result}
+use Rattle.std.specs.Result.{IsErrAnd}
+use Rattle.std.proofs.lemmas.Result.{err_from_is_err_and}
+use Rattle.refusals.specs.Refusals.{number_of, refusal_in, unless}
 use Rattle.refusals.specs.declared.Refusal.{Refusal}
 use Rattle.refusals.specs.declared.Refusal.TheVariants.{Counts, Thresholds, Allowances, Times, Buckets, Cover, Form, Words, Draw, Ended, Spoiled, Room, Run, TooClose, SavedForm, Points, PointsInForm}
 
@@ -28,20 +30,22 @@ number_is SavedForm = omega arith
 number_is Points = omega arith
 number_is PointsInForm = omega arith
 
--- a rule that nothing refused is kept; one that something refused is not
-pub kept : (b : Bool) (n : ℕ) → 0 ≡ unless b (suc n) → b ≡ true
-kept true n e = refl
-kept false n e = absurd (omega arith)
+-- a rule b, which code judged by a test x: where nothing refused, it is kept; where something did, it is not, and the number is the rule's
+module _ {x b : Bool} (e : x ≡ b) where
+  pub kept : (n : ℕ) → 0 ≡ unless x (suc n) → b ≡ true
+  kept n h = sym e ∙ go x h
+    where
+      go : (x : Bool) → 0 ≡ unless x (suc n) → x ≡ true
+      go true h = refl
+      go false h = absurd (omega (arith, h))
 
-pub broken : (b : Bool) (n : ℕ) (r : Refusal) → number_of r ≡ unless b n → b ≡ false
-broken true n r e = let h = number_is r in absurd (omega (arith, e, h))
-broken false n r e = refl
+  pub broken : (n : ℕ) (r : Refusal) → number_of r ≡ unless x n → (b ≡ false) × (number_of r ≡ n)
+  broken n r h = let g = go x h in (sym e ∙ g.0, g.1)
+    where
+      go : (x : Bool) → number_of r ≡ unless x n → (x ≡ false) × (number_of r ≡ n)
+      go true h = let k = number_is r in absurd (omega (arith, h, k))
+      go false h = (refl, h)
 
--- the first refusal where nothing refused first, and where something did
-pub passes : (n : ℕ) (rest : List ℕ) → 0 ≡ n → first_refusal (n ∷ rest) ≡ first_refusal rest
-passes zero rest e = refl
-passes (suc n) rest e = absurd (omega arith)
-
-pub stops : (r : Refusal) (n : ℕ) (rest : List ℕ) → number_of r ≡ n → number_of r ≡ first_refusal (n ∷ rest)
-stops r zero rest e = let h = number_is r in absurd (omega (arith, e, h))
-stops r (suc n) rest e = e
+-- a refusal that is handed on by `?`
+pub handed_on : {A : Type 0} (r : Result A Refusal) (d : Refusal) {n : ℕ} → IsErrAnd r (λ f. f ≡ d) → number_of d ≡ n → refusal_in r ≡ n
+handed_on r d h e = let p = err_from_is_err_and r h in rw (p.1, p.2) e
