@@ -7,7 +7,10 @@ use Prim.Native.Nat.{ℕ, zero, suc, ◌≤◌, ◌<◌}
 use native.Mathlib.Nat.{eq-or-lt_of_le}
 use native.Mathlib.Omega.{arith}
 use Rattle.plan.proofs.PlaceLaws.{le_or_lt}
-use Rattle.bucket_choice.specs.Choice.{width_at, contains, chosen_bucket}
+use Rattle.std.specs.Prelude.{Option, Some, None}
+use Rattle.std.specs.Option.{is_some}
+use Rattle.walk.proofs.Tests.{clash, le?_complete, le?_fails}
+use Rattle.bucket_choice.specs.Choice.{width_at, contains, chosen_bucket, named}
 use Rattle.bucket_choice.specs.Chosen.{Contains, Chosen}
 use Rattle.plan.specs.declared.Plan.{Plan}
 use Rattle.bucket_choice.proofs.ChoiceLaws.{contains_says, contains_not, chosen_found, chosen_none}
@@ -76,40 +79,37 @@ module _ (p : Plan) (low high : ℕ) where
       ⊎_elim (λ none. inr (λ j h. none j h.inside h))
       (λ s. let c : Chosen p low high s.0 = best_chosen s.1 in inl (rw (chosen_found p low high c) c)) (found p.buckets (omega arith))
 
--- ---- a loop that has looked at the places before n holds B, or the best of them
+-- ---- a loop that has looked at the places before n holds none, or the best of them with its width
 
-pub data Held (p : Plan) (low high n : ℕ) : ℕ → Type 0 where
-  nothing : NoneTo p low high n → Held p low high n p.buckets
-  best : {k : ℕ} → BestTo p low high n k → Held p low high n k
+pub data Held (p : Plan) (low high n : ℕ) : Option ℕ → ℕ → Type 0 where
+  nothing : {w : ℕ} → NoneTo p low high n → Held p low high n None w
+  best : {k w : ℕ} → BestTo p low high n k → w ≡ width_at p k → Held p low high n (Some k) w
 
 module _ {p : Plan} {low high : ℕ} where
-  pub held_none : Held p low high 0 p.buckets
+  pub held_none : {w : ℕ} → Held p low high 0 None w
   held_none = nothing (λ i l. absurd (omega arith))
 
-  pub held_all : {k : ℕ} → Held p low high p.buckets k → k ≡ chosen_bucket p low high
-  held_all (nothing none) = sym (chosen_none p low high (λ j h. none j h.inside h))
-  held_all (best b) = sym (chosen_found p low high (best_chosen p low high b))
-
-  pub held_contains : {n k : ℕ} → Held p low high n k → ¬ (k ≡ p.buckets) → Contains p low high k
-  held_contains (nothing none) some = absurd (some refl)
-  held_contains (best b) some = b.contains_it
+  pub held_all : {o : Option ℕ} {w : ℕ} → Held p low high p.buckets o w → o ≡ named p.buckets (chosen_bucket p low high)
+  held_all (nothing none) = rw (chosen_none p low high (λ j h. none j h.inside h), le?_fails (suc p.buckets) p.buckets (omega arith))
+  held_all (best {k} b e) = rw (chosen_found p low high (best_chosen p low high b), le?_complete (suc k) p.buckets b.before)
 
   -- it looks at the place n: the bucket there does not contain the interval ..
   module _ (n : ℕ) where
-    pub held_more : {k : ℕ} → Held p low high n k → contains p low high n ≡ false → Held p low high (suc n) k
+    pub held_more : {o : Option ℕ} {w : ℕ} → Held p low high n o w → contains p low high n ≡ false → Held p low high (suc n) o w
     held_more (nothing none) e = nothing (none_more p low high n none (contains_not p low high n e))
-    held_more (best b) e = best (best_still p low high n b (λ h. absurd (contains_not p low high n e h)))
+    held_more (best b is) e = best (best_still p low high n b (λ h. absurd (contains_not p low high n e h))) is
 
     -- .. or does, and is the first that does; is narrower than the one held; or is passed over
-    pub held_first : {k : ℕ} → Held p low high n k → Contains p low high n → k ≡ p.buckets → Held p low high (suc n) n
-    held_first (nothing none) h e = best (best_here p low high n h (λ i m g. absurd (none i m g)))
-    held_first (best b) h e = absurd (omega (arith, b.contains_it.inside))
+    pub held_first : {o : Option ℕ} {w : ℕ} → Held p low high n o w → Contains p low high n → is_some o ≡ false
+        → Held p low high (suc n) (Some n) (width_at p n)
+    held_first (nothing none) h e = best (best_here p low high n h (λ i m g. absurd (none i m g))) refl
+    held_first (best b is) h e = clash e
 
-    pub held_now : {k : ℕ} → Held p low high n k → Contains p low high n → ¬ (k ≡ p.buckets) → width_at p n < width_at p k
-        → Held p low high (suc n) n
-    held_now (nothing none) h some narrow = absurd (some refl)
-    held_now (best b) h some narrow = best (best_here p low high n h (λ i m g. omega (arith, b.none_narrower i m g)))
+    pub held_now : {o : Option ℕ} {w : ℕ} → Held p low high n o w → Contains p low high n → width_at p n < w
+        → Held p low high (suc n) (Some n) (width_at p n)
+    held_now (nothing none) h narrow = best (best_here p low high n h (λ i m g. absurd (none i m g))) refl
+    held_now (best b is) h narrow = best (best_here p low high n h (λ i m g. omega (arith, b.none_narrower i m g))) refl
 
-    pub held_still : {k : ℕ} → Held p low high n k → ¬ (k ≡ p.buckets) → width_at p k ≤ width_at p n → Held p low high (suc n) k
-    held_still (nothing none) some wide = absurd (some refl)
-    held_still (best b) some wide = best (best_still p low high n b (λ h. wide))
+    pub held_still : {o : Option ℕ} {w : ℕ} → Held p low high n o w → is_some o ≡ true → w ≤ width_at p n → Held p low high (suc n) o w
+    held_still (nothing none) e wide = clash (sym e)
+    held_still (best b is) e wide = best (best_still p low high n b (λ h. omega arith)) is

@@ -1,5 +1,5 @@
 -- Which bucket is named for an interval from low to high (rules 7.1, 7.2), under every plan, accepted or not. Places are counted from 0.
-use Rattle.std.specs.Prelude.{Bool, not, ◌&&◌, ℕ, ◌-◌}
+use Rattle.std.specs.Prelude.{Bool, not, ◌&&◌, ℕ, ◌-◌, Option, Some, None, if◌then◌else◌}
 use Rattle.walk.specs.Numbers.{le?, lt?, search_up}
 use Rattle.plan.specs.Places.{any_to}
 use Rattle.plan.specs.Plan.{left_at, right_at}
@@ -29,6 +29,10 @@ Choice = Plan → ℕ → ℕ → ℕ
 -- the choice: the first of the narrowest in plan order
 unfoldable pub chosen_bucket : Choice
 chosen_bucket p low high = search_up p.buckets 0 (narrowest p low high)
+
+-- the place j of a bucket among the first n; None where there is none, n or more
+abbrev pub named : ℕ → ℕ → Option ℕ
+named n j = if lt? j n then Some j else None
 
 -- the choice before it: the first in plan order, whatever its width
 unfoldable pub first_bucket : Choice
