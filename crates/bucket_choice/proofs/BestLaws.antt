@@ -9,11 +9,11 @@ use native.Mathlib.Omega.{arith}
 use Rattle.plan.proofs.PlaceLaws.{le_or_lt}
 use Rattle.std.specs.Prelude.{Option, Some, None}
 use Rattle.std.specs.Option.{is_some}
-use Rattle.walk.proofs.Tests.{clash, le?_complete, le?_fails}
+use Rattle.walk.proofs.Tests.{clash}
 use Rattle.bucket_choice.specs.Choice.{width_at, contains, chosen_bucket, named}
 use Rattle.bucket_choice.specs.Chosen.{Contains, Chosen}
 use Rattle.plan.specs.declared.Plan.{Plan}
-use Rattle.bucket_choice.proofs.ChoiceLaws.{contains_says, contains_not, chosen_found, chosen_none}
+use Rattle.bucket_choice.proofs.ChoiceLaws.{contains_says, contains_not, chosen_found, named_found, named_nowhere}
 
 module _ (p : Plan) (low high : ℕ) where
   abbrev pub NoneTo : ℕ → Type 0
@@ -90,8 +90,8 @@ module _ {p : Plan} {low high : ℕ} where
   held_none = nothing (λ i l. absurd (omega arith))
 
   pub held_all : {o : Option ℕ} {w : ℕ} → Held p low high p.buckets o w → o ≡ named p.buckets (chosen_bucket p low high)
-  held_all (nothing none) = rw (chosen_none p low high (λ j h. none j h.inside h), le?_fails (suc p.buckets) p.buckets (omega arith))
-  held_all (best {k} b e) = rw (chosen_found p low high (best_chosen p low high b), le?_complete (suc k) p.buckets b.before)
+  held_all (nothing none) = named_nowhere p low high (λ j h. none j h.inside h)
+  held_all (best b e) = named_found p low high (best_chosen p low high b)
 
   -- it looks at the place n: the bucket there does not contain the interval ..
   module _ (n : ℕ) where

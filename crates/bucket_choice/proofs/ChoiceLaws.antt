@@ -5,12 +5,14 @@ use mathlib.Core.Logic.{⊎_elim, ◌↔◌}
 use Prim.Native.Nat.{ℕ, suc, ◌≤◌, ◌<◌}
 use native.Mathlib.Omega.{arith}
 use Rattle.walk.specs.Numbers.{search_up}
-use Rattle.walk.proofs.Tests.{clash}
+use Rattle.walk.proofs.Tests.{clash, le?_sound, le?_complete, le?_fails}
 use Rattle.walk.proofs.Searches.{search_only, search_cong}
 use Rattle.plan.specs.Places.{any_to}
 use Rattle.plan.specs.Plan.{left_at, right_at}
 use Rattle.plan.proofs.PlaceLaws.{both, neither, le_reads, le_or_lt, any_reads, any_cong}
-use Rattle.bucket_choice.specs.Choice.{width_at, contains, narrower, narrowest, chosen_bucket}
+use Rattle.std.specs.Prelude.{Some, None, if◌then◌else◌}
+use Rattle.walk.specs.Numbers.{lt?}
+use Rattle.bucket_choice.specs.Choice.{width_at, contains, narrower, narrowest, chosen_bucket, named}
 use Rattle.bucket_choice.specs.Chosen.{Contains, Chosen}
 use Rattle.plan.specs.declared.Plan.{Plan}
 
@@ -111,3 +113,24 @@ module _ (p q : Plan) (buckets : q.buckets ≡ p.buckets)
   chosen_cong =
       search_cong q.buckets 0 (narrowest q low high) (narrowest p low high) (λ j l. narrowest_same j (omega arith))
       ∙ ap (λ n. search_up n 0 (narrowest p low high)) buckets
+
+-- ---- the place that is named, as an option
+
+module _ (n j : ℕ) where
+  pub named_some : {k : ℕ} → Some k ≡ named n j → (k ≡ j) × (j < n)
+  named_some {k} e = go (lt? j n) refl e
+    where
+      go : (b : Bool) → lt? j n ≡ b → Some k ≡ (if b then Some j else None) → (k ≡ j) × (j < n)
+      go true t e = (cc, le?_sound (suc j) n t)
+      go false t e = cc
+
+  pub named_none : None ≡ named n j → n ≤ j
+  named_none e =
+      ⊎_elim (λ l. l) (λ l. let f = rw (le?_complete (suc j) n l) at e in cc) (le_or_lt n j)
+
+module _ (p : Plan) (low high : ℕ) where
+  pub named_found : {j : ℕ} → Chosen p low high j → Some j ≡ named p.buckets (chosen_bucket p low high)
+  named_found {j} c = rw (chosen_found p low high c, le?_complete (suc j) p.buckets c.contains_it.inside)
+
+  pub named_nowhere : ((j : ℕ) → ¬ Contains p low high j) → None ≡ named p.buckets (chosen_bucket p low high)
+  named_nowhere none = rw (chosen_none p low high none, le?_fails (suc p.buckets) p.buckets (omega arith))

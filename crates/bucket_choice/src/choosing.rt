@@ -46,7 +46,10 @@ pub fn chosen_bucket(p: &Plan, interval: Interval) -> Option<u32>
     let mut least = 0;
     for j in 0..p.buckets {
         let at = j as usize;
-        let bucket = Bucket { left: p.left[at], right: p.right[at] };
+        let bucket = Bucket {
+            left: p.left[at],
+            right: p.right[at],
+        };
         if bucket.contains(interval) {
             let width = bucket.width();
             if chosen.is_none() || width < least {

@@ -4,12 +4,13 @@ use mathlib.Core.Bool.{Bool, true, false}
 use Prim.Native.Nat.{ℕ, suc, ◌+◌, ◌≤◌, ◌<◌, max, min}
 use native.Mathlib.Numerals.{add-one}
 use native.Mathlib.Omega.{arith}
+use Rattle.std.specs.Prelude.{Some, None}
 use Rattle.walk.specs.Numbers.{lt?}
 use Rattle.walk.proofs.Tests.{clash, le?_complete, le?_fails}
 use Rattle.plan.specs.Places.{eq?, largest_to, smallest_to}
 use Rattle.plan.specs.Plan.{left_at, right_at}
-use Rattle.bucket_choice.specs.Choice.{Choice, chosen_bucket}
-use Rattle.bucket_choice.proofs.ChoiceLaws.{chosen_cong}
+use Rattle.bucket_choice.specs.Choice.{Choice, chosen_bucket, named}
+use Rattle.bucket_choice.proofs.ChoiceLaws.{chosen_cong, named_some, named_none}
 use Rattle.bucket_test.specs.Turn.{record_at, wide_open}
 use Rattle.bucket_test.specs.Answers.{low_of, high_of, any_wide, first_that_fits, answer_by, answer_over, answer_of, is_ending, refusal_of}
 use Rattle.bucket_test.specs.declared.State.{State}
@@ -44,13 +45,17 @@ module _ (p : Plan) (low high b : ℕ) (w e : Bool) where
   pub crossed : high < low → Crossed ≡ fits
   crossed h = rw (le?_complete (suc high) low h)
 
-  module _ (straight : low ≤ high) (j : ℕ) (place : j ≡ chosen_bucket p low high) where
-    pub decided : j < b → Decided (j + 1) ≡ fits
-    decided l = rw (← place, le?_fails (suc high) low (omega arith), le?_complete (suc j) b l, add-one j)
+  module _ (straight : low ≤ high) where
+    pub decided : {j : ℕ} → Some j ≡ named b (chosen_bucket p low high) → Decided (j + 1) ≡ fits
+    decided {j} e =
+        let h = named_some b (chosen_bucket p low high) e in
+        rw (le?_fails (suc high) low (omega arith), le?_complete (suc (chosen_bucket p low high)) b h.1, add-one j, h.0)
 
-    module _ (none : b ≤ j) where
-      undecided : fits ≡ first_that_fits false false j w e
-      undecided = rw (← place, le?_fails (suc high) low (omega arith), le?_fails (suc j) b (omega arith))
+    module _ (none : None ≡ named b (chosen_bucket p low high)) where
+      undecided : fits ≡ first_that_fits false false (chosen_bucket p low high) w e
+      undecided =
+          let h = named_none b (chosen_bucket p low high) none in
+          rw (le?_fails (suc high) low (omega arith), le?_fails (suc (chosen_bucket p low high)) b (omega arith))
 
       pub wide : w ≡ true → Wide ≡ fits
       wide t = rw (undecided, t)

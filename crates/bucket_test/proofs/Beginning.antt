@@ -9,7 +9,7 @@ use Rattle.walk.proofs.RecordLaws.{start_not_wide}
 use Rattle.plan.specs.Places.{largest_to, smallest_to}
 use Rattle.plan.specs.Plan.{right_at, Accepted}
 use Rattle.bucket_choice.specs.Chosen.{Contains}
-use Rattle.bucket_choice.proofs.ChoiceLaws.{chosen_none}
+use Rattle.bucket_choice.proofs.ChoiceLaws.{named_nowhere}
 use Rattle.bucket_test.specs.Turn.{start_record, no_record, record_at, wide_open}
 use Rattle.bucket_test.specs.Answers.{low_of, high_of, any_wide, answer_of}
 use Rattle.bucket_test.specs.Draw.{start_state}
@@ -55,5 +55,5 @@ module _ (p : Plan) (ok : Accepted p) where
   pub start_open : answer_of p start_state ≡ Open
   unfolding start_state
   start_open =
-      sym (open_yet p 0 million p.buckets false false (omega arith) _ (sym (chosen_none p 0 million none_contains)) (omega arith) refl refl
+      sym (open_yet p 0 million p.buckets false false (omega arith) (named_nowhere p 0 million none_contains) refl refl
       ∙ rule_of p start_state (sym start_low) (sym start_high) (sym start_thin) (sym (eq?_fails 0 p.horizon (λ e. omega (arith, ok.horizon_range, e)))))

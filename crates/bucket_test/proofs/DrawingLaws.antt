@@ -1,10 +1,11 @@
 -- What a draw that nothing refuses may do, and each way out of a beginning and a draw, in plain variables.
 use mathlib.Core.Path.{◌≡◌, refl, sym, ap, ◌∙◌}
-use mathlib.Core.Bool.{true, false, ◌&&◌}
-use mathlib.Core.List.{List}
+use mathlib.Core.Bool.{Bool, true, false, not, ◌&&◌}
+use mathlib.Core.List.{List, [], ◌∷◌}
 use Prim.Native.Nat.{ℕ, zero, suc, ◌+◌, ◌*◌, ◌-◌, ◌≤◌, ◌<◌}
 use native.Mathlib.Nat.{le_of_lt}
 use native.Mathlib.Omega.{arith}
+use borrow.Author.Tests.{not-true}
 use lib.ListN.{length}
 use Rattle.walk.specs.Numbers.{le?}
 use Rattle.walk.specs.Units.{million, wide, horizon_limit}
@@ -14,7 +15,7 @@ use Rattle.walk.specs.Record.{first_above, is_wide}
 use Rattle.walk.specs.Soundness.{rounded_fits}
 use Rattle.walk.specs.declared.Mark.{Mark}
 use Rattle.walk.specs.declared.Mark.TheVariants.{Open, Above, AtMost}
-use Rattle.walk.proofs.Tests.{and_true, le?_sound, le?_complete, le?_fails}
+use Rattle.walk.proofs.Tests.{and_true, le?_sound}
 use Rattle.walk.proofs.SoundnessLaws.{IsSound, few_live, steppable}
 use Rattle.plan.specs.Places.{over_to, join_to}
 use Rattle.plan.specs.Plan.{threshold_at, spending_of, plan_refusal, Accepted}
@@ -22,13 +23,18 @@ use Rattle.bucket_choice.specs.Choice.{chosen_bucket}
 use Rattle.bucket_test.specs.Words.{part_at, words_fit}
 use Rattle.bucket_test.specs.Turn.{record_at, wide_open, MayTurn, numbers_sound, record_sound, record_turn, part_turn, record_sound_at, MayTurnAt}
 use Rattle.bucket_test.specs.Answers.{low_of, high_of, answer_of, is_ending}
-use Rattle.bucket_test.specs.Draw.{Outcome, drawn_of, start_state, start_words, no_state, begin_refusal, begun_by, begun_over, begun, state_sound, draw_refusal_over, draw_refusal, next_state, next_words, drawn_by, drawn_over, drawn, report_over, report}
+use Rattle.bucket_test.specs.Draw.{Outcome, drawn_of, start_state, start_words, no_state, begin_refusal, begun_over, begun, state_sound, draw_refusal_over, draw_refusal, next_state, next_words, drawn_by, drawn_over, drawn, report_by, report_over, report}
 use Rattle.bucket_test.specs.declared.Threshold.{Threshold}
 use Rattle.bucket_test.specs.declared.State.{State}
 use Rattle.plan.specs.declared.Plan.{Plan}
 use Rattle.bucket_test.specs.declared.Drawn.{Drawn}
 use Rattle.bucket_test.specs.declared.Answer.TheVariants.{Refused}
-use Rattle.plan.proofs.PlaceLaws.{all_reads}
+use Rattle.plan.proofs.PlaceLaws.{all_reads, first_one}
+use Rattle.refusals.specs.Refusals.{number_of, unless, first_refusal}
+use Rattle.refusals.specs.declared.Refusal.{Refusal}
+use Rattle.refusals.proofs.RefusalLaws.{number_is}
+use Rattle.bucket_test.proofs.PartLaws.{words_say}
+use Rattle.bucket_test.proofs.Refusing.{refused-beginning, refused_draw}
 use Rattle.plan.proofs.AcceptedLaws.{accepted, threshold_ok, spends}
 use Rattle.bucket_test.proofs.AnsweringLaws.{not_over, thin_at}
 use Rattle.bucket_test.proofs.TurningLaws.{part_length}
@@ -54,11 +60,11 @@ open_sound e n S t part h =
 may_turn_by : (E : ℕ → ℕ) (n S a : ℕ) → a ≤ million → IsSpending E → n ≤ horizon_limit → (t : Threshold) (part : List ℕ)
     → (m : Mark) → (m ≡ Open → t.walked.upper - first_above t.walked.lower < length part)
     → record_sound (E n) n S m t part ≡ true → (mark_open m && is_wide t.walked) ≡ false → MayTurn a (E (suc n)) m t part
-may_turn_by E n S a threshold spends early t part Open room sound thin =
+may_turn_by E n S a threshold spending early t part Open room sound thin =
     let h = open_sound (E n) n S t part sound in
-    steppable E n S t.walked part (room refl) a threshold spends early thin h.0 h.1
-may_turn_by E n S a threshold spends early t part (Above u) room sound thin = tt
-may_turn_by E n S a threshold spends early t part (AtMost u) room sound thin = tt
+    steppable E n S t.walked part (room refl) a threshold spending early thin h.0 h.1
+may_turn_by E n S a threshold spending early t part (Above u) room sound thin = tt
+may_turn_by E n S a threshold spending early t part (AtMost u) room sound thin = tt
 
 -- the threshold at place i of an accepted plan after n draws, its record t and its masses in any part: in one with a word more than an open
 -- one's live counts it may have its turn, and so in one of 769
@@ -124,74 +130,115 @@ places p good = let ok = (accepted p).0 good in (ok.count_range.1, ok.buckets_ra
 pub hands : {o o' : Outcome} → o ≡ o' → {r : Drawn} {ws : List ℕ} → r ≡ drawn_of o' → ws ≡ o'.words → (r ≡ drawn_of o) × (ws ≡ o.words)
 hands e p q = (p ∙ ap drawn_of (sym e), q ∙ ap (λ (o : Outcome). o.words) (sym e))
 
+-- ---- what is judged before a beginning and a draw
+
+-- a refusal that is the first of two is the first of more; two rules that are kept leave those behind them
+stops : (a b : ℕ) (rs : List ℕ) (r : Refusal) → number_of r ≡ first_refusal (a ∷ b ∷ []) → number_of r ≡ first_refusal (a ∷ b ∷ rs)
+stops zero zero rs r e = let k = number_is r in absurd (omega (arith, e, k))
+stops zero (suc b) rs r e = e
+stops (suc a) b rs r e = e
+
+passes : (a b : ℕ) (rs : List ℕ) → 0 ≡ first_refusal (a ∷ b ∷ []) → first_refusal (a ∷ b ∷ rs) ≡ first_refusal rs
+passes zero zero rs e = refl
+passes zero (suc b) rs e = absurd (omega (arith, e))
+passes (suc a) b rs e = absurd (omega (arith, e))
+
+-- a plan's refusal comes first
+plan_first : (a : ℕ) (rs : List ℕ) (r : Refusal) → number_of r ≡ a → number_of r ≡ first_refusal (a ∷ rs)
+plan_first zero rs r e = let k = number_is r in absurd (omega (arith, e, k))
+plan_first (suc a) rs r e = e
+
+-- a rule and those behind it refuse nothing
+kept_first : (b : Bool) (r : ℕ) (rs : List ℕ) → 0 ≡ first_refusal (unless b (suc r) ∷ rs) → (b ≡ true) × (0 ≡ first_refusal rs)
+kept_first true r rs e = (refl, e)
+kept_first false r rs e = absurd (omega (arith, e))
+
+after_plan : (a : ℕ) (rs : List ℕ) → 0 ≡ first_refusal (a ∷ rs) → (a ≡ 0) × (0 ≡ first_refusal rs)
+after_plan zero rs e = (refl, e)
+after_plan (suc a) rs e = absurd (omega (arith, e))
+
 module _ (p : Plan) (ws : List ℕ) where
-  -- ---- the ways out of a beginning
-
-  begun_by_lem : (r : ℕ) → begin_refusal p ws ≡ r → begun p ws ≡ begun_by chosen_bucket r p ws
-  unfolding begun_over
-  begun_by_lem r e = rw e
-
-  pub begun-plan : (r : ℕ) → r ≡ plan_refusal p → 0 < r → begun p ws ≡ record { answer = Refused r; state = no_state; words = ws }
+  pub begin_plan : (r : Refusal) → number_of r ≡ plan_refusal p → number_of r ≡ begin_refusal p ws
   unfolding begin_refusal
-  begun-plan zero e h = absurd (omega arith)
-  begun-plan (suc r) e h = begun_by_lem (suc r) (rw (← e))
+  begin_plan r e = plan_first _ _ r e
 
-  module _ (good : plan_refusal p ≡ 0) where
-    pub begun_8 : words_fit p ws ≡ false → begun p ws ≡ record { answer = Refused 8; state = no_state; words = ws }
+  pub begin_words : plan_refusal p ≡ 0 → begin_refusal p ws ≡ unless (words_fit p ws) 8
+  unfolding begin_refusal
+  begin_words good = rw good (first_one (unless (words_fit p ws) 8))
+
+  -- nothing refuses a beginning
+  module _ (nothing : 0 ≡ begin_refusal p ws) where
+    pub good_plan : plan_refusal p ≡ 0
     unfolding begin_refusal
-    begun_8 h = begun_by_lem 8 (rw (good, h))
+    good_plan = (after_plan _ _ nothing).0
 
-    pub begun_0 : words_fit p ws ≡ true → begun p ws ≡ record { answer = answer_of p start_state; state = start_state; words = start_words p }
+    pub long_words : length ws ≡ wide * p.count
     unfolding begin_refusal
-    begun_0 h = begun_by_lem 0 (rw (good, h))
+    long_words = (words_say p ws).0 (kept_first _ 7 [] (after_plan (plan_refusal p) (unless (words_fit p ws) 8 ∷ []) nothing).1).0
 
--- ---- the ways out of a draw
+    pub begun_now : begun p ws ≡ record { answer = answer_of p start_state; state = start_state; words = start_words p }
+    unfolding begun_over
+    begun_now = rw (← nothing)
+
+  -- .. as it is of an accepted plan and so many words
+  pub begun_0 : plan_refusal p ≡ 0 → words_fit p ws ≡ true
+      → begun p ws ≡ record { answer = answer_of p start_state; state = start_state; words = start_words p }
+  begun_0 good fits = begun_now (sym (rw (begin_words good, fits)))
+
+  pub refuses_begin : (r : Refusal) → number_of r ≡ begin_refusal p ws → begun p ws ≡ record { answer = Refused (number_of r); state = no_state; words = ws }
+  refuses_begin r e = let k = number_is r in rw e (refused-beginning p ws (λ z. omega (arith, e, z, k)))
 
 module _ (p : Plan) (s : State) (ws : List ℕ) (d : ℕ) where
+  pub draw_begins : (r : Refusal) → number_of r ≡ begin_refusal p ws → number_of r ≡ draw_refusal p s ws d
+  unfolding begin_refusal draw_refusal_over
+  draw_begins r e = stops _ _ _ r e
+
+  pub draw_goes_on : 0 ≡ begin_refusal p ws
+      → draw_refusal p s ws d
+      ≡ first_refusal (unless (le? d 1) 9 ∷ unless (not (is_ending (answer_of p s))) 10 ∷ unless (state_sound p s ws) 11 ∷ [])
+  unfolding begin_refusal draw_refusal_over
+  draw_goes_on e = passes _ _ _ e
+
   pub drawn_by_lem : (r : ℕ) → draw_refusal p s ws d ≡ r → drawn p s ws d ≡ drawn_by chosen_bucket r p s ws d
   unfolding drawn_over
   drawn_by_lem r e = rw e
 
-  abbrev pub Refuses : ℕ → Type 0
-  Refuses r = drawn p s ws d ≡ record { answer = Refused r; state = s; words = ws }
+  pub refuses_draw : (r : Refusal) → number_of r ≡ draw_refusal p s ws d → drawn p s ws d ≡ record { answer = Refused (number_of r); state = s; words = ws }
+  refuses_draw r e = let k = number_is r in rw e (refused_draw p s ws d (λ z. omega (arith, e, z, k)))
 
-  pub drawn-plan : (r : ℕ) → r ≡ plan_refusal p → 0 < r → Refuses r
+  -- nothing refuses a draw
+  pub record Drawable : Type 0 where
+    pub good : plan_refusal p ≡ 0
+    pub long : length ws ≡ wide * p.count
+    pub bit : d ≤ 1
+    pub going : is_ending (answer_of p s) ≡ false
+    pub sound : state_sound p s ws ≡ true
+
+  pub drawable : draw_refusal p s ws d ≡ 0 → Drawable
   unfolding draw_refusal_over
-  drawn-plan zero e h = absurd (omega arith)
-  drawn-plan (suc r) e h = drawn_by_lem (suc r) (rw (← e))
-
-  module _ (good : plan_refusal p ≡ 0) where
-    pub drawn_8 : words_fit p ws ≡ false → Refuses 8
-    unfolding draw_refusal_over
-    drawn_8 h = drawn_by_lem 8 (rw (good, h))
-
-    module _ (fits : words_fit p ws ≡ true) where
-      pub drawn_9 : 1 < d → Refuses 9
-      unfolding draw_refusal_over
-      drawn_9 h = drawn_by_lem 9 (rw (good, fits, le?_fails d 1 h))
-
-      module _ (bit : d ≤ 1) where
-        pub drawn_10 : is_ending (answer_of p s) ≡ true → Refuses 10
-        unfolding draw_refusal_over
-        drawn_10 h = drawn_by_lem 10 (rw (good, fits, le?_complete d 1 bit, h))
-
-        module _ (open_yet : is_ending (answer_of p s) ≡ false) where
-          pub drawn_11 : state_sound p s ws ≡ false → Refuses 11
-          unfolding draw_refusal_over
-          drawn_11 h = drawn_by_lem 11 (rw (good, fits, le?_complete d 1 bit, open_yet, h))
-
-          pub drawn_0 : state_sound p s ws ≡ true
-              → drawn p s ws d ≡ record { answer = answer_of p (next_state p s ws d); state = next_state p s ws d; words = next_words p s ws d }
-          unfolding draw_refusal_over
-          drawn_0 h = drawn_by_lem 0 (rw (good, fits, le?_complete d 1 bit, open_yet, h))
+  drawable e =
+      let on_plan = after_plan _ _ (sym e) in
+      let on_words = kept_first _ 7 _ on_plan.1 in
+      let on_draw = kept_first _ 8 _ on_words.1 in
+      let on_end = kept_first _ 9 _ on_draw.1 in
+      record {
+        good = on_plan.0;
+        long = (words_say p ws).0 on_words.0;
+        bit = le?_sound d 1 on_draw.0;
+        going = not-true _ on_end.0;
+        sound = (kept_first _ 10 _ on_end.1).0;
+      }
 
 -- ---- the answer to a state
 
 module _ (p : Plan) (s : State) where
-  pub report-plan : (r : ℕ) → r ≡ plan_refusal p → 0 < r → report p s ≡ record { answer = Refused r; low = 0; high = 0 }
+  pub refuses_report : (r : Refusal) → number_of r ≡ plan_refusal p → record { answer = Refused (number_of r); low = 0; high = 0 } ≡ report p s
   unfolding report_over
-  report-plan zero e h = absurd (omega arith)
-  report-plan (suc r) e h = rw (← e)
+  refuses_report r e = go (plan_refusal p) e
+    where
+      go : (n : ℕ) → number_of r ≡ n → record { answer = Refused (number_of r); low = 0; high = 0 } ≡ report_by chosen_bucket n p s
+      go zero e = let k = number_is r in absurd (omega (arith, e, k))
+      go (suc n) e = rw e
 
   pub report_0 : plan_refusal p ≡ 0 → report p s ≡ record { answer = answer_of p s; low = low_of p s; high = high_of p s }
   unfolding report_over

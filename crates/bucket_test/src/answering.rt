@@ -10,17 +10,10 @@ ghost use Rattle.bucket_test.specs.Turn.{wide_open};
 ghost use Rattle.bucket_test.specs.Answers.{low_of, high_of, any_wide, first_that_fits, answer_of};
 
 use crate::{Answer, State, Threshold};
-use bucket_choice::choosing::chosen_bucket;
-use plan::{BUCKET_LIMIT, Plan};
+use bucket_choice::choosing::{Interval, chosen_bucket};
+use plan::Plan;
 use walk::soundness::is_wide;
 use walk::{MILLION, Mark};
-
-// The interval from low to high, in millionths.
-#[derive(Clone, Copy)]
-pub struct Interval {
-    pub low: u32,
-    pub high: u32,
-}
 
 // A threshold t with the mark m narrows the interval.
 pub fn narrowed(v: Interval, m: Mark, t: u32) -> Interval
@@ -53,23 +46,17 @@ pub fn narrowed(v: Interval, m: Mark, t: u32) -> Interval
 }
 
 // The interval of a state. An accepted plan has at most ten thresholds.
-pub(crate) fn interval_of(p: Plan, s: State) -> Interval
-    requires { p.count ≤ count_limit }
-    ensures { (result.low ≡ low_of p s) × (result.high ≡ high_of p s) }
+pub(crate) fn interval_of(p: &Plan, s: &State) -> Interval
+    requires { p.now.count ≤ count_limit }
+    ensures { (result.low ≡ low_of p.now s.now) × (result.high ≡ high_of p.now s.now) }
 {
     let count = p.count as usize;
-    let thresholds = p.thresholds;
-    let records = s.records;
     let mut v = Interval {
         low: 0,
         high: MILLION,
     };
-    let mut i = 0;
-    while i < count {
-        let r = records[i];
-        let m = r.mark;
-        v = narrowed(v, m, thresholds[i]);
-        i += 1;
+    for i in 0..count {
+        v = narrowed(v, s.records[i].mark, p.thresholds[i]);
     }
     v
 }
@@ -77,52 +64,37 @@ pub(crate) fn interval_of(p: Plan, s: State) -> Interval
 pub fn wide_open(t: Threshold) -> bool
     ensures { result ≡ wide_open t }
 {
-    let m = t.mark;
-    let w = t.walked;
-    match m {
-        Mark::Open => is_wide(w),
+    match t.mark {
+        Mark::Open => is_wide(t.walked),
         Mark::Above(_) => false,
         Mark::AtMost(_) => false,
     }
 }
 
-fn any_wide(p: Plan, s: State) -> bool
-    requires { p.count ≤ count_limit }
-    ensures { result ≡ any_wide p s }
+fn any_wide(p: &Plan, s: &State) -> bool
+    requires { p.now.count ≤ count_limit }
+    ensures { result ≡ any_wide p.now s.now }
 {
     let count = p.count as usize;
-    let records = s.records;
-    let mut i = 0;
-    while i < count {
-        let r = records[i];
-        if wide_open(r) {
+    for i in 0..count {
+        if wide_open(s.records[i]) {
             return true;
         }
-        i += 1;
     }
     false
 }
 
-// The first answer that fits an interval from low to high, where a plan has the first `buckets` of these buckets, of at most sixteen.
-pub fn first_that_fits<'a>(
-    low: u32,
-    high: u32,
-    wide: bool,
-    spent: bool,
-    lefts: &'a [u32; BUCKET_LIMIT],
-    rights: &'a [u32; BUCKET_LIMIT],
-    buckets: u32,
-) -> Answer
-    requires { buckets ≤ bucket_limit }
-    ensures { (p : Plan) → p.buckets ≡ buckets → p.left ≡ lefts.now → p.right ≡ rights.now
-        → result ≡ first_that_fits (lt? high low) (lt? (chosen_bucket p low high) buckets) (chosen_bucket p low high) wide spent }
+// The first answer that fits an interval under a plan with at most sixteen buckets.
+pub fn first_that_fits(p: &Plan, interval: Interval, wide: bool, spent: bool) -> Answer
+    requires { p.now.buckets ≤ bucket_limit }
+    ensures { result ≡ first_that_fits (lt? interval.high interval.low) (lt? (chosen_bucket p.now interval.low interval.high) p.now.buckets)
+        (chosen_bucket p.now interval.low interval.high) wide spent }
 {
-    if low > high {
+    if interval.low > interval.high {
         return Answer::Crossed;
     }
-    let j = chosen_bucket(lefts, rights, buckets, low, high);
-    if j < buckets {
-        return Answer::Decided(j + 1);
+    if let Some(place) = chosen_bucket(p, interval) {
+        return Answer::Decided(place + 1);
     }
     if wide {
         return Answer::Wide;
@@ -134,19 +106,9 @@ pub fn first_that_fits<'a>(
 }
 
 // The answer to a state, where the plan is accepted.
-pub fn answer_of(p: Plan, s: State) -> Answer
-    requires { (p.count ≤ count_limit) × (p.buckets ≤ bucket_limit) }
-    ensures { result ≡ answer_of p s }
+pub fn answer_of(p: &Plan, s: &State) -> Answer
+    requires { (p.now.count ≤ count_limit) × (p.now.buckets ≤ bucket_limit) }
+    ensures { result ≡ answer_of p.now s.now }
 {
-    let v = interval_of(p, s);
-    let wide = any_wide(p, s);
-    first_that_fits(
-        v.low,
-        v.high,
-        wide,
-        s.n == p.horizon,
-        &p.left,
-        &p.right,
-        p.buckets,
-    )
+    first_that_fits(p, interval_of(p, s), any_wide(p, s), s.n == p.horizon)
 }

@@ -1,11 +1,11 @@
 // A beginning, a draw, and the answer to a state (rules 6, 7.3, 8.2).
 
-ghost use Rattle.std.specs.Prelude.{◌≡◌, true, false, ◌*◌, ◌≤◌, length};
+ghost use Rattle.std.specs.Prelude.{◌≡◌, ◌*◌};
 ghost use Rattle.walk.specs.Units.{wide};
 ghost use Rattle.plan.specs.Places.{eq?};
-ghost use Rattle.plan.specs.Plan.{plan_refusal};
-ghost use Rattle.bucket_test.specs.Answers.{answer_of, is_ending};
-ghost use Rattle.bucket_test.specs.Draw.{drawn_of, begun, state_sound, next_state, next_words, drawn, report};
+ghost use Rattle.refusals.specs.Refusals.{number_of, refusal_in};
+ghost use Rattle.bucket_test.specs.Answers.{is_ending};
+ghost use Rattle.bucket_test.specs.Draw.{drawn_of, begin_refusal, begun, draw_refusal, next_state, next_words, drawn, report};
 
 use crate::answering::{answer_of, interval_of};
 use crate::judging::state_sound;
@@ -13,18 +13,17 @@ use crate::starting::{no_walked, start_words, ten_of};
 use crate::turning::turn_all;
 use crate::{Answer, Drawn, Report, State};
 use plan::Plan;
-use plan::rules::plan_refusal;
+use refusals::{Refusal, ensure};
 use walk::WIDE;
 use walk::starting::start_walked;
 
-// A refusal by its number, with a state.
-fn refused(number: u32, s: State) -> Drawn
-    ensures { result ≡ record { answer = Answer.Refused number; state = s } }
+// A refusal with a state.
+fn refused(refusal: Refusal, state: State) -> Drawn
+    ensures { result ≡ record { answer = Answer.Refused (number_of refusal); state = state } }
 {
-    let answer = Answer::Refused(number);
     Drawn {
-        answer: answer,
-        state: s,
+        answer: Answer::Refused(refusal.number()),
+        state,
     }
 }
 
@@ -35,24 +34,27 @@ fn words_fit(count: u32, len: usize) -> bool
     len == WIDE * count as usize
 }
 
+// Any plan and any words may be handed in.
+fn judge_beginning(p: &Plan, words: &[u64]) -> Result<(), Refusal>
+    ensures { refusal_in result ≡ begin_refusal p.now words.now }
+{
+    p.judge()?;
+    ensure(words_fit(p.count, words.len()), Refusal::Words)
+}
+
 // Beginning: every part is written, unless the plan or the number of words is refused (rules 6.1). Any plan and any
 // words may be handed in.
-pub fn begin(p: Plan, words: &mut [u64]) -> Drawn
-    ensures { (result ≡ drawn_of (begun p words.old)) × (words.new ≡ (begun p words.old).words) }
+pub fn begin(p: &Plan, words: &mut [u64]) -> Drawn
+    ensures { (result ≡ drawn_of (begun p.now words.old)) × (words.new ≡ (begun p.now words.old).words) }
 {
-    let bad = plan_refusal(p);
-    if bad > 0 {
-        return refused(bad, ten_of(no_walked()));
-    }
-    if !words_fit(p.count, words.len()) {
-        return refused(8, ten_of(no_walked()));
+    if let Err(refusal) = judge_beginning(p, words) {
+        return refused(refusal, ten_of(no_walked()));
     }
     start_words(words, p.count as usize);
     let state = ten_of(start_walked());
-    let answer = answer_of(p, state);
     Drawn {
-        answer: answer,
-        state: state,
+        answer: answer_of(p, &state),
+        state,
     }
 }
 
@@ -69,73 +71,55 @@ pub fn is_ending(a: Answer) -> bool
     }
 }
 
+// By plan, 8, 9, 10 and 11 in this order (rules 8.2). Any plan, state, words and draw may be handed in.
+fn judge_draw(p: &Plan, s: &State, words: &[u64], d: u8) -> Result<(), Refusal>
+    ensures { refusal_in result ≡ draw_refusal p.now s.now words.now d }
+{
+    judge_beginning(p, words)?;
+    ensure(d <= 1, Refusal::Draw)?;
+    ensure(!is_ending(answer_of(p, s)), Refusal::Ended)?;
+    ensure(state_sound(p, s, words), Refusal::Spoiled)
+}
+
 // n and S rise, and each threshold has its turn, where nothing refuses the draw.
-fn take_one(p: Plan, s: State, words: &mut [u64], d: u8) -> State
-    requires { (plan_refusal p ≡ 0)
-        × (length words.old ≡ wide * p.count)
-        × (d ≤ 1)
-        × (is_ending (answer_of p s) ≡ false)
-        × (state_sound p s words.old ≡ true) }
-    ensures { (result ≡ next_state p s words.old d) × (words.new ≡ next_words p s words.old d) }
+fn take_one(p: &Plan, s: &State, words: &mut [u64], d: u8) -> State
+    requires { draw_refusal p.now s.now words.old d ≡ 0 }
+    ensures { (result ≡ next_state p.now s.now words.old d) × (words.new ≡ next_words p.now s.now words.old d) }
 {
     let n = s.n + 1;
     let ones = s.ones + d as u32;
-    let before = s.records;
-    let records = turn_all(p, before, words, n, ones);
-    State {
-        n: n,
-        ones: ones,
-        records: records,
-    }
+    let records = turn_all(p, s.records, words, n, ones);
+    State { n, ones, records }
 }
 
-// A draw, judged by plan, 8, 9, 10 and 11 in this order (rules 8.2). Any plan, state, words and draw may be handed in; a refusal hands
-// back the state it was given.
-pub fn draw(p: Plan, s: State, words: &mut [u64], d: u8) -> Drawn
-    ensures { (result ≡ drawn_of (drawn p s words.old d)) × (words.new ≡ (drawn p s words.old d).words) }
+// A draw, unless it is refused; a refusal hands back the state it was given.
+pub fn draw(p: &Plan, s: State, words: &mut [u64], d: u8) -> Drawn
+    ensures { (result ≡ drawn_of (drawn p.now s words.old d)) × (words.new ≡ (drawn p.now s words.old d).words) }
 {
-    let bad = plan_refusal(p);
-    if bad > 0 {
-        return refused(bad, s);
+    if let Err(refusal) = judge_draw(p, &s, words, d) {
+        return refused(refusal, s);
     }
-    if !words_fit(p.count, words.len()) {
-        return refused(8, s);
-    }
-    if d > 1 {
-        return refused(9, s);
-    }
-    let before = answer_of(p, s);
-    if is_ending(before) {
-        return refused(10, s);
-    }
-    if !state_sound(p, s, &words[..]) {
-        return refused(11, s);
-    }
-    let state = take_one(p, s, words, d);
-    let answer = answer_of(p, state);
+    let state = take_one(p, &s, words, d);
     Drawn {
-        answer: answer,
-        state: state,
+        answer: answer_of(p, &state),
+        state,
     }
 }
 
 // The answer to a state as it stands, with its interval. Any plan and any state may be handed in.
-pub fn report_on(p: Plan, s: State) -> Report
-    ensures { result ≡ report p s }
+pub fn report_on(p: &Plan, s: &State) -> Report
+    ensures { result ≡ report p.now s.now }
 {
-    let bad = plan_refusal(p);
-    if bad > 0 {
-        let no = Answer::Refused(bad);
+    if let Err(refusal) = p.judge() {
         return Report {
-            answer: no,
+            answer: Answer::Refused(refusal.number()),
             low: 0,
             high: 0,
         };
     }
-    let answer = answer_of(p, s);
     let v = interval_of(p, s);
     Report {
-        answer: answer,
+        answer: answer_of(p, s),
         low: v.low,
         high: v.high,
     }

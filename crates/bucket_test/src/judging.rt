@@ -10,7 +10,6 @@ ghost use Rattle.bucket_test.specs.Draw.{state_sound};
 use crate::{State, Threshold};
 use plan::Plan;
 use plan::rules::within;
-use plan::spending::portion_at;
 use walk::soundness::{boundaries_sound, rounded_fits, words_sound};
 use walk::spending::spending_at;
 use walk::{Mark, WIDE};
@@ -47,12 +46,12 @@ fn record_sound(t: Threshold, part: &[u64], e: u64, n: u32, ones: u32) -> bool
 }
 
 // Whether each of the first K records passes refusal 11; n is judged before.
-fn records_sound(p: Plan, s: State, words: &[u64]) -> bool
-    requires { (plan_refusal p ≡ 0) × (length words.now ≡ wide * p.count) × (s.n ≤ horizon_limit) }
-    ensures { result ≡ all_to p.count (λ i. record_sound_at p words.now s.n s.ones i (record_at s i)) }
+fn records_sound(p: &Plan, s: &State, words: &[u64]) -> bool
+    requires { (plan_refusal p.now ≡ 0) × (length words.now ≡ wide * p.now.count) × (s.now.n ≤ horizon_limit) }
+    ensures { result ≡ all_to p.now.count (λ i. record_sound_at p.now words.now s.now.n s.now.ones i (record_at s.now i)) }
 {
     let count = p.count as usize;
-    let portion = portion_at(p.delay, p.points, &p.steps, &p.shares, s.n);
+    let portion = p.portion_at(s.n);
     for i in 0..count {
         let t = s.records[i];
         let e = spending_at(p.allowances[i], portion);
@@ -65,9 +64,9 @@ fn records_sound(p: Plan, s: State, words: &[u64]) -> bool
 }
 
 // Refusal 11, of any state: n over N or S over n, or a record of the first K. A draw has judged plan and words.
-pub fn state_sound(p: Plan, s: State, words: &[u64]) -> bool
-    requires { (plan_refusal p ≡ 0) × (length words.now ≡ wide * p.count) }
-    ensures { result ≡ state_sound p s words.now }
+pub fn state_sound(p: &Plan, s: &State, words: &[u64]) -> bool
+    requires { (plan_refusal p.now ≡ 0) × (length words.now ≡ wide * p.now.count) }
+    ensures { result ≡ state_sound p.now s.now words.now }
 {
     if s.n > p.horizon {
         return false;

@@ -8,7 +8,6 @@ ghost use Rattle.plan.specs.Plan.{plan_refusal};
 ghost use Rattle.bucket_test.specs.Turn.{no_record, marked, turn_record, turn_part, MayTurn, record_turn, part_turn, MayTurnAt};
 
 use crate::Threshold;
-use plan::spending::portion_at;
 use plan::{COUNT_LIMIT, Plan};
 use walk::spending::spending_at;
 use walk::step::{advance, step};
@@ -79,21 +78,21 @@ pub fn turn_front(t: Threshold, part: &mut [u64], a: u32, e: u64, n: u32, ones: 
 // The turns of the first K thresholds at draw n, each with its own part of the words; the records past K stay. A draw has
 // judged the plan, the words and the state.
 pub(crate) fn turn_all(
-    p: Plan,
+    p: &Plan,
     records: [Threshold; COUNT_LIMIT],
     words: &mut [u64],
     n: u32,
     ones: u32,
 ) -> [Threshold; COUNT_LIMIT]
-    requires { (plan_refusal p ≡ 0)
-        × (length words.old ≡ wide * p.count)
+    requires { (plan_refusal p.now ≡ 0)
+        × (length words.old ≡ wide * p.now.count)
         × (n ≤ horizon_limit)
-        × ((i : ℕ) → i < p.count → MayTurnAt p words.old n i (get_or records i no_record)) }
-    ensures { (result ≡ over_to p.count (record_turn p words.old n ones) records)
-        × (words.new ≡ join_to p.count (λ i. part_turn p words.old n ones i (get_or records i no_record))) }
+        × ((i : ℕ) → i < p.now.count → MayTurnAt p.now words.old n i (get_or records i no_record)) }
+    ensures { (result ≡ over_to p.now.count (record_turn p.now words.old n ones) records)
+        × (words.new ≡ join_to p.now.count (λ i. part_turn p.now words.old n ones i (get_or records i no_record))) }
 {
     let count = p.count as usize;
-    let portion = portion_at(p.delay, p.points, &p.steps, &p.shares, n);
+    let portion = p.portion_at(n);
     let mut next = records;
     for i in 0..count {
         let t = next[i];

@@ -7,6 +7,6 @@ use Rattle.bucket_test.proofs.answering.answer_of.Goals as goal
 pub returns : goal.returns
 unfolding eq?
 returns c =
-    let v = c.interval_of-v.ensures in
+    let v = c.interval_of.ensures in
     let a = c.args in
-    c.first_that_fits.ensures a.p refl refl refl ∙ rule_of a.p a.s v.0 v.1 c.any_wide-wide.ensures refl
+    c.first_that_fits.ensures ∙ rule_of a.p.now a.s.now v.0 v.1 c.any_wide.ensures refl

@@ -1,29 +1,23 @@
 -- Each return is one case of the rule.
+use native.Mathlib.Omega.{arith}
+use Rattle.bucket_choice.proofs.ChoiceLaws.{named_some}
 use Rattle.bucket_test.proofs.AnsweringLaws.{crossed, decided, wide, spent, open_yet}
 use Rattle.bucket_test.proofs.answering.first_that_fits.Goals as goal
 
-pub returns-then-low-high : goal.returns-then-low-high
-returns-then-low-high c p b ls rs = let v = c.args in crossed p v.low v.high _ _ _ c.if-low-high.true
+pub returns-then-interval : goal.returns-then-interval
+returns-then-interval c = crossed _ _ _ _ _ _ c.if-interval.true
 
-pub returns-then-j-buckets : goal.returns-then-j-buckets
-returns-then-j-buckets c p b ls rs =
-    let v = c.args in
-    decided p v.low v.high _ _ _ c.if-low-high.false _ (c.chosen_bucket-j.ensures p b ls rs) c.if-j-buckets.true
+pub overflow_add-result : goal.overflow_add-result
+overflow_add-result c = let h = named_some _ _ c.in-Some.ensures in omega (arith, h, c.requires)
+
+pub returns-in-Some : goal.returns-in-Some
+returns-in-Some c = decided _ _ _ _ _ _ c.if-interval.false c.in-Some.ensures
 
 pub returns-then-wide : goal.returns-then-wide
-returns-then-wide c p b ls rs =
-    let v = c.args in
-    wide p v.low v.high _ _ _ c.if-low-high.false _ (c.chosen_bucket-j.ensures p b ls rs)
-    c.if-j-buckets.false c.if-wide.true
+returns-then-wide c = wide _ _ _ _ _ _ c.if-interval.false c.in_default.ensures c.if-wide.true
 
 pub returns-then-spent : goal.returns-then-spent
-returns-then-spent c p b ls rs =
-    let v = c.args in
-    spent p v.low v.high _ _ _ c.if-low-high.false _ (c.chosen_bucket-j.ensures p b ls rs)
-    c.if-j-buckets.false c.if-wide.false c.if-spent.true
+returns-then-spent c = spent _ _ _ _ _ _ c.if-interval.false c.in_default.ensures c.if-wide.false c.if-spent.true
 
 pub returns : goal.returns
-returns c p b ls rs =
-    let v = c.args in
-    open_yet p v.low v.high _ _ _ c.if-low-high.false _ (c.chosen_bucket-j.ensures p b ls rs)
-    c.if-j-buckets.false c.if-wide.false c.if-spent.false
+returns c = open_yet _ _ _ _ _ _ c.if-interval.false c.in_default.ensures c.if-wide.false c.if-spent.false

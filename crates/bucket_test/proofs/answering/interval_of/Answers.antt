@@ -11,32 +11,19 @@ use Rattle.bucket_test.proofs.answering.interval_of.Goals as goal
 
 pub loop-i-init : goal.loop-i-init
 unfolding largest_to smallest_to million
-loop-i-init c = (omega arith, refl, refl, omega arith)
+loop-i-init c = (refl, refl, omega arith)
 
-pub offset_bounds-records-i : goal.offset_bounds-records-i
-offset_bounds-records-i c = omega (arith, c.requires)
-
-pub bounds-records-i : goal.bounds-records-i
-bounds-records-i c = omega (arith, c.requires)
-
-pub offset_bounds-thresholds-i : goal.offset_bounds-thresholds-i
-offset_bounds-thresholds-i c = omega (arith, c.requires)
-
-pub bounds-thresholds-i : goal.bounds-thresholds-i
-bounds-thresholds-i c = omega (arith, c.requires)
-
-pub overflow_add-i : goal.overflow_add-i
-overflow_add-i c = omega (arith, c.requires)
+pub narrowed-v-requires : goal.narrowed-v-requires
+narrowed-v-requires c = c.loop-i.invariant.2
 
 pub loop-i-preserved : goal.loop-i-preserved
 loop-i-preserved c =
     let k = c.args in
     let l = c.loop-i in
     let e = c.narrowed-v.ensures in (
-      omega arith,
-      e.0 ∙ largest_more l.i (above_at k.p.thresholds k.s.records) 0 l.v.low l.invariant.1,
-      e.1 ∙ smallest_more l.i (at_most_at k.p.thresholds k.s.records) million l.v.high l.invariant.2,
-      omega (arith, e.1, l.invariant.3),
+      e.0 ∙ largest_more l.i (above_at k.p.now.thresholds k.s.now.records) 0 l.v.low l.invariant.0,
+      e.1 ∙ smallest_more l.i (at_most_at k.p.now.thresholds k.s.now.records) million l.v.high l.invariant.1,
+      omega (arith, e.1, l.invariant.2),
     )
 
 pub returns : goal.returns
@@ -44,7 +31,7 @@ unfolding low_of high_of
 returns c =
     let k = c.args in
     let l = c.loop-i in
-    let n : l.i ≡ k.p.count = omega arith in (
-      l.invariant.1 ∙ ap (λ (j : ℕ). largest_to j (above_at k.p.thresholds k.s.records) 0) n,
-      l.invariant.2 ∙ ap (λ (j : ℕ). smallest_to j (at_most_at k.p.thresholds k.s.records) million) n,
+    let n : l.i ≡ k.p.now.count = omega arith in (
+      l.invariant.0 ∙ ap (λ (j : ℕ). largest_to j (above_at k.p.now.thresholds k.s.now.records) 0) n,
+      l.invariant.1 ∙ ap (λ (j : ℕ). smallest_to j (at_most_at k.p.now.thresholds k.s.now.records) million) n,
     )

@@ -1,7 +1,7 @@
 -- After i places the interval is that of the first i thresholds.
 use mathlib.Core.Path.{◌≡◌}
 use mathlib.Core.List.{List}
-use Prim.Native.Nat.{ℕ, ◌-◌, ◌≤◌}
+use Prim.Native.Nat.{ℕ, ◌≤◌}
 use lib.ListN.{get_or}
 use Rattle.walk.specs.Numbers.{only, choose}
 use Rattle.walk.specs.Units.{million}
@@ -19,10 +19,6 @@ at_most_at thresholds records k = choose (is_on Lower (get_or records k no_recor
 
 abbrev pub invariant-loop-i : goal.invariant-loop-i
 invariant-loop-i l =
-    (l.i ≤ l.count)
-    × (l.v.low ≡ largest_to l.i (above_at l.thresholds l.records) 0)
-    × (l.v.high ≡ smallest_to l.i (at_most_at l.thresholds l.records) million)
+    (l.v.low ≡ largest_to l.i (above_at l.p.thresholds l.s.records) 0)
+    × (l.v.high ≡ smallest_to l.i (at_most_at l.p.thresholds l.s.records) million)
     × (l.v.high ≤ million)
-
-abbrev pub decreases-loop-i : goal.decreases-loop-i
-decreases-loop-i l = l.count - l.i

@@ -1,5 +1,5 @@
 -- The records before place i pass.
-use mathlib.Core.Path.{◌≡◌, refl, ◌∙◌}
+use mathlib.Core.Path.{◌≡◌, ◌∙◌}
 use mathlib.Core.Bool.{false}
 use Rattle.walk.specs.Units.{wide}
 use Rattle.plan.specs.Tables.{portion_of}
@@ -12,27 +12,27 @@ use Rattle.bucket_test.proofs.judging.records_sound.Goals.{After-portion_at-port
 use Rattle.bucket_test.proofs.judging.records_sound.Goals as goal
 
 pub portion_at-portion-requires : goal.portion_at-portion-requires
-portion_at-portion-requires c = ((accepted c.args.p).0 c.requires.0).points_sound.few
+portion_at-portion-requires c = ((accepted c.args.p.now).0 c.requires.0).points_sound.few
 
 pub loop-i-init : goal.loop-i-init
 unfolding wide
 loop-i-init c =
-    (((accepted c.args.p).0 c.requires.0).count_range.1, c.requires.1, sought_none false _)
+    (((accepted c.args.p.now).0 c.requires.0).count_range.1, c.requires.1, sought_none false _)
 
 -- the portion that the loop spends by
 portion : (c : After-portion_at-portion)
-    → let a = c.args in c.portion_at-portion.result ≡ portion_of a.p a.s.n
-portion c = c.portion_at-portion.ensures _ refl refl refl refl
+    → let a = c.args in c.portion_at-portion.result ≡ portion_of a.p.now a.s.now.n
+portion c = c.portion_at-portion.ensures
 
 pub spending_at-e-requires : goal.spending_at-e-requires
 spending_at-e-requires c =
-    may_spend c.args.p ((accepted c.args.p).0 c.requires.0) c.loop-i.i c.args.s.n c.loop-i-test.true c.requires.2 _ (portion (goal.at.spending_at-e-requires c).After-portion_at-portion)
+    may_spend c.args.p.now ((accepted c.args.p.now).0 c.requires.0) c.loop-i.i c.args.s.now.n c.loop-i-test.true c.requires.2 _ (portion (goal.at.spending_at-e-requires c).After-portion_at-portion)
 
 judged : (c : After-record_sound)
     → let a = c.args in
-    c.record_sound.result ≡ passes a.p a.s a.words.now c.loop-i.i
+    c.record_sound.result ≡ passes a.p.now a.s.now a.words.now c.loop-i.i
 judged c =
-    let spent = spent_is c.args.p c.loop-i.i c.args.s.n _ _ (c.portion_at-portion.ensures _ refl refl refl refl) c.spending_at-e.ensures in
+    let spent = spent_is c.args.p.now c.loop-i.i c.args.s.now.n _ _ (c.portion_at-portion.ensures) c.spending_at-e.ensures in
     c.record_sound.ensures ∙ rw (spent, part_lent c.loop-i.i c.args.words.now)
 
 pub returns-then-not-record_sound : goal.returns-then-not-record_sound

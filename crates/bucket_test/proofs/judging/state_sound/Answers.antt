@@ -16,7 +16,7 @@ returns-then-s c = rw (le?_complete _ _ c.if-s-p.false, le?_fails _ _ c.if-s.tru
 pub records_sound-requires : goal.records_sound-requires
 records_sound-requires c =
     let h = c.requires in
-    (h.0, h.1, omega (arith, c.if-s-p.false, ((accepted c.args.p).0 h.0).horizon_range))
+    (h.0, h.1, omega (arith, c.if-s-p.false, ((accepted c.args.p.now).0 h.0).horizon_range))
 
 pub returns : goal.returns
 unfolding state_sound

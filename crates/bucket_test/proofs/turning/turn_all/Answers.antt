@@ -18,28 +18,28 @@ use Rattle.bucket_test.proofs.turning.turn_all.Goals.{After-portion_at-portion, 
 use Rattle.bucket_test.proofs.turning.turn_all.Goals as goal
 
 pub portion_at-portion-requires : goal.portion_at-portion-requires
-portion_at-portion-requires c = ((accepted c.args.p).0 c.requires.0).points_sound.few
+portion_at-portion-requires c = ((accepted c.args.p.now).0 c.requires.0).points_sound.few
 
 pub loop-i-init : goal.loop-i-init
 unfolding over_to wide
 loop-i-init c =
     let a = c.args in (
       omega arith,
-      ((accepted a.p).0 c.requires.0).count_range.1,
+      ((accepted a.p.now).0 c.requires.0).count_range.1,
       c.requires.1,
       refl,
       refl,
-      words_none (part_of a.p a.records a.words.now a.n a.ones) a.words.now,
+      words_none (part_of a.p.now a.records a.words.now a.n a.ones) a.words.now,
     )
 
 -- the portion that the loop spends by
 portion : (c : After-portion_at-portion)
-    → let a = c.args in c.portion_at-portion.result ≡ portion_of a.p a.n
-portion c = c.portion_at-portion.ensures _ refl refl refl refl
+    → let a = c.args in c.portion_at-portion.result ≡ portion_of a.p.now a.n
+portion c = c.portion_at-portion.ensures
 
 pub spending_at-e-requires : goal.spending_at-e-requires
 spending_at-e-requires c =
-    may_spend c.args.p ((accepted c.args.p).0 c.requires.0) c.loop-i.i c.args.n c.loop-i-test.true c.requires.2 _ (portion (goal.at.spending_at-e-requires c).After-portion_at-portion)
+    may_spend c.args.p.now ((accepted c.args.p.now).0 c.requires.0) c.loop-i.i c.args.n c.loop-i-test.true c.requires.2 _ (portion (goal.at.spending_at-e-requires c).After-portion_at-portion)
 
 now-at : (c : After-spending_at-e)
     → let a = c.args in
@@ -49,12 +49,12 @@ now-at : (c : After-spending_at-e)
 now-at c =
     let a = c.args in
     let l = c.loop-i in (
-      record_now (record_turn a.p a.words.now a.n a.ones) a.records l.next l.i l.invariant.4 no_record,
-      part_now_lem (part_of a.p a.records a.words.now a.n a.ones) a.words.now l.i (omega arith) l.words l.invariant.3 l.invariant.5,
+      record_now (record_turn a.p.now a.words.now a.n a.ones) a.records l.next l.i l.invariant.4 no_record,
+      part_now_lem (part_of a.p.now a.records a.words.now a.n a.ones) a.words.now l.i (omega arith) l.words l.invariant.3 l.invariant.5,
     )
 
-spent-at : (c : After-spending_at-e) → let a = c.args in c.spending_at-e.result ≡ spending_of a.p c.loop-i.i a.n
-spent-at c = let a = c.args in spent_is a.p c.loop-i.i a.n _ _ (c.portion_at-portion.ensures _ refl refl refl refl) c.spending_at-e.ensures
+spent-at : (c : After-spending_at-e) → let a = c.args in c.spending_at-e.result ≡ spending_of a.p.now c.loop-i.i a.n
+spent-at c = let a = c.args in spent_is a.p.now c.loop-i.i a.n _ _ (c.portion_at-portion.ensures) c.spending_at-e.ensures
 
 pub turn-requires : goal.turn-requires
 turn-requires c =
@@ -63,7 +63,7 @@ turn-requires c =
     let i = c.loop-i.i in
     let l = c.loop-i-test.true in (
       may_turn _ c.args.n c.args.ones (spent-at here) k.0 k.1 (c.requires.3 i l),
-      ap length k.1 ∙ part_length c.args.words.now c.args.p.count i c.requires.1 l,
+      ap length k.1 ∙ part_length c.args.words.now c.args.p.now.count i c.requires.1 l,
     )
 
 pub loop-i-preserved : goal.loop-i-preserved
@@ -78,9 +78,9 @@ loop-i-preserved c =
       l.invariant.1,
       l.invariant.2,
       search rules,
-      record_put (record_turn a.p a.words.now a.n a.ones) a.records l.next l.i l.invariant.4 no_record _
+      record_put (record_turn a.p.now a.words.now a.n a.ones) a.records l.next l.i l.invariant.4 no_record _
           (same_record _ a.n a.ones e k.0 k.1 done.0),
-      part_put (part_of a.p a.records a.words.now a.n a.ones) a.words.now l.i (omega arith) l.words l.invariant.3 l.invariant.5 _
+      part_put (part_of a.p.now a.records a.words.now a.n a.ones) a.words.now l.i (omega arith) l.words l.invariant.3 l.invariant.5 _
           (same_part _ a.n a.ones e k.0 k.1 done.1),
     )
 
@@ -88,7 +88,7 @@ pub returns : goal.returns
 returns c =
     let a = c.args in
     let l = c.loop-i in
-    let ended : l.i ≡ a.p.count = omega arith in (
-      l.invariant.4 ∙ ap (λ (k : ℕ). over_to k (record_turn a.p a.words.now a.n a.ones) a.records) ended,
-      l.invariant.5 ∙ words_all (part_of a.p a.records a.words.now a.n a.ones) _ a.p.count l.i c.requires.1 ended,
+    let ended : l.i ≡ a.p.now.count = omega arith in (
+      l.invariant.4 ∙ ap (λ (k : ℕ). over_to k (record_turn a.p.now a.words.now a.n a.ones) a.records) ended,
+      l.invariant.5 ∙ words_all (part_of a.p.now a.records a.words.now a.n a.ones) _ a.p.now.count l.i c.requires.1 ended,
     )
