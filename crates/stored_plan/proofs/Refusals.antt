@@ -1,38 +1,29 @@
 -- What is handed back, by the refusals of a reading and of a writing in their order (specs/Reading, specs/Writing).
-use mathlib.Core.Path.{◌≡◌, refl, sym, ap, ap₂, ◌∙◌}
+use mathlib.Core.Path.{◌≡◌, refl, sym, ◌∙◌}
 use mathlib.Core.Bool.{Bool, true, false}
 use mathlib.Core.List.{List, [], ◌∷◌, ◌++◌}
 use mathlib.Core.Logic.{◌↔◌}
 use Prim.Native.Nat.{ℕ, zero, suc, ◌≤◌, ◌<◌}
 use native.Mathlib.Omega.{arith}
 use lib.ListN.{length, drop}
+use Rattle.std.specs.Prelude.{Result}
+use Rattle.std.specs.Result.{IsErrAnd}
+use Rattle.std.proofs.lemmas.Result.{err_from_is_err_and}
 use Rattle.walk.specs.Numbers.{le?}
-use Rattle.walk.proofs.Tests.{le?_complete, le?_fails}
+use Rattle.walk.proofs.Tests.{le?_complete}
 use Rattle.plan.specs.Places.{eq?}
-use Rattle.refusals.specs.Refusals.{unless, first_refusal}
+use Rattle.refusals.specs.Refusals.{number_of, unless, first_refusal}
+use Rattle.refusals.specs.declared.Refusal.{Refusal}
+use Rattle.refusals.proofs.RefusalLaws.{number_is}
 use Rattle.plan.specs.Plan.{counts_fit, plan_refusal}
 use Rattle.plan.specs.declared.Plan.{Plan}
 use Rattle.plan.proofs.PlaceLaws.{both, le_reads, eq?_fails, eq_reads, first_some, first_one, same_number, none_both, none_says, last_says, number_absent, number_here, number-after}
 use Rattle.plan.proofs.AcceptedLaws.{Counted, counts_say, plan_other}
 use Rattle.little.specs.Little.{field}
 use Rattle.stored_plan.specs.Form.{header_size, threshold_offset_field, bucket_offset_field, bucket_offset, form_size, form_limit, encoded}
-use Rattle.stored_plan.specs.Reading.{count_in, buckets_in, plan_in, offsets_fit, length_fits, form_refusal, read_refusal, no_plan, decoded_by, decoded}
-use Rattle.stored_plan.specs.Inner.{Into}
-use Rattle.stored_plan.specs.declared.Read.{Read}
+use Rattle.stored_plan.specs.Reading.{count_in, buckets_in, plan_in, offsets_fit, length_fits, form_refusal, read_refusal, no_plan, decoded, read_as}
 use Rattle.stored_plan.specs.Writing.{write_refusal, written, bytes_after}
 use Rattle.stored_plan.proofs.FormLaws.{longest}
-
--- the first of two as code says it, by what each of them is; and of three, as the first of two, of which the second is again
-pub first_two : {r a b a' b' : ℕ} → r ≡ first_refusal (a ∷ b ∷ []) → a ≡ a' → b ≡ b' → r ≡ first_refusal (a' ∷ b' ∷ [])
-first_two e f g = e ∙ ap₂ (λ (x y : ℕ). first_refusal (x ∷ y ∷ [])) f g
-
-pub first_three : {r s a b c a' b' c' : ℕ} → r ≡ first_refusal (a ∷ s ∷ []) → s ≡ first_refusal (b ∷ c ∷ []) → a ≡ a' → b ≡ b' → c ≡ c'
-    → r ≡ first_refusal (a' ∷ b' ∷ c' ∷ [])
-first_three {a' = a'} {b' = b'} {c' = c'} e d f g h = first_two e f (first_two d g h) ∙ nested a'
-  where
-    nested : (x : ℕ) → first_refusal (x ∷ first_refusal (b' ∷ c' ∷ []) ∷ []) ≡ first_refusal (x ∷ b' ∷ c' ∷ [])
-    nested zero = first_one (first_refusal (b' ∷ c' ∷ []))
-    nested (suc x) = refl
 
 -- ---- a reading
 
@@ -46,42 +37,26 @@ module _ (bytes : List ℕ) where
   decoded_some zero n e = absurd (n refl)
   decoded_some (suc r) n e = rw e
 
-  pub short : length bytes < header_size → read_refusal bytes ≡ 7
+  pub short : le? header_size (length bytes) ≡ false → read_refusal bytes ≡ 7
   unfolding read_refusal
-  short h = rw (le?_fails header_size (length bytes) h)
+  short e = rw e
 
-  past_header : header_size ≤ length bytes → read_refusal bytes ≡ first_refusal (form_refusal bytes ∷ plan_refusal (plan_in bytes) ∷ [])
+  pub past_header : le? header_size (length bytes) ≡ true → read_refusal bytes ≡ first_refusal (form_refusal bytes ∷ plan_refusal (plan_in bytes) ∷ [])
   unfolding read_refusal
-  past_header h = rw (le?_complete header_size (length bytes) h)
+  past_header e = rw e
 
-  module _ (r : ℕ) (e : r ≡ form_refusal bytes) (h : header_size ≤ length bytes) where
-    pub form-refused : ¬ (r ≡ 0) → read_refusal bytes ≡ r
-    form-refused n = past_header h ∙ rw (← e) (first_some r (plan_refusal (plan_in bytes) ∷ []) n)
+  module _ (e : le? header_size (length bytes) ≡ true) where
+    pub form-refused : (r : ℕ) → ¬ (r ≡ 0) → r ≡ form_refusal bytes → read_refusal bytes ≡ r
+    form-refused r n f = past_header e ∙ rw (← f) (first_some r (plan_refusal (plan_in bytes) ∷ []) n)
 
-    pub past_form : r ≡ 0 → read_refusal bytes ≡ plan_refusal (plan_in bytes)
-    past_form z = past_header h ∙ rw (← e, z) (first_one (plan_refusal (plan_in bytes)))
+    pub past_form : form_refusal bytes ≡ 0 → read_refusal bytes ≡ plan_refusal (plan_in bytes)
+    past_form z = past_header e ∙ rw z (first_one (plan_refusal (plan_in bytes)))
 
-  refusal_read : (decoded bytes).refusal ≡ read_refusal bytes
-  unfolding decoded
-  refusal_read = by (read_refusal bytes)
-    where
-      by : (r : ℕ) → (decoded_by r bytes).refusal ≡ r
-      by zero = refl
-      by (suc r) = refl
-
-  -- a reading into lent tables
-  pub into_some : (r : ℕ) → ¬ (r ≡ 0) → read_refusal bytes ≡ r → (q : ℕ) → q ≡ r → (p : Plan) → Into bytes q p
-  into_some r n e q d p = (d ∙ sym (refusal_read ∙ e), λ z. absurd (n (sym d ∙ z)))
-
-  pub into-plan : (q : ℕ) (p : Plan) → read_refusal bytes ≡ plan_refusal (plan_in bytes) → p ≡ plan_in bytes → q ≡ plan_refusal (plan_in bytes) → Into bytes q p
-  into-plan q p e plan d = (d ∙ sym (refusal_read ∙ e), λ z. plan ∙ ap (λ (x : Read). x.plan) (decoded_none (e ∙ sym d ∙ z)))
-
-  -- .. and the reading that hands the plan back
-  pub back_some : (r : ℕ) (p : Plan) → Into bytes r p → ¬ (r ≡ 0) → record { refusal = r; plan = no_plan } ≡ decoded bytes
-  back_some r p h n = decoded_some r n (sym (h.0 ∙ refusal_read))
-
-  pub back_none : (r : ℕ) (p : Plan) → Into bytes r p → r ≡ 0 → record { refusal = r; plan = p } ≡ decoded bytes
-  back_none r p h z = ap₂ (λ (x : ℕ) (y : Plan). record { refusal = x; plan = y }) h.0 (h.1 z)
+  -- a refused reading, as code hands it back by `?`
+  pub read_refused : (r : Result Plan Refusal) (d : Refusal) → IsErrAnd r (λ f. f ≡ d) → read_refusal bytes ≡ number_of d → read_as r ≡ decoded bytes
+  read_refused r d h e =
+      let p = err_from_is_err_and r h in
+      rw (p.1, p.2) (decoded_some (number_of d) (λ z. omega (arith, number_is d)) e)
 
   -- what the tests of a form say
   abbrev pub Counts : Type 0
@@ -120,7 +95,7 @@ module _ (bytes : List ℕ) where
         rw (e, eq?_fails (length bytes) (form_size count buckets) (λ z. omega arith)) (sym (same_number (offsets_fit bytes) 6))
 
     pub overlong : record { refusal = form_refusal bytes; plan = no_plan } ≡ decoded bytes
-    overlong = decoded_some (form_refusal bytes) some (form-refused (form_refusal bytes) refl (omega arith) some)
+    overlong = decoded_some (form_refusal bytes) some (form-refused (le?_complete header_size (length bytes) (omega arith)) (form_refusal bytes) some refl)
       where
         some : ¬ (form_refusal bytes ≡ 0)
         some z = let s = form_says.0 z in omega (arith, s.1.1, longest (count_in bytes) (buckets_in bytes) s.0)

@@ -1,8 +1,6 @@
--- What a reader of this crate has to believe: each file after those it rests on, with its sections of docs/RULES.md. Definitions only; `Inner`
--- is cited by inner contracts alone.
+-- What a reader of this crate has to believe: each file after those it rests on, with its sections of docs/RULES.md. Definitions only.
 pub mod Form
 pub mod Reading
-pub mod Inner
 pub mod Writing
 pub mod RoundTrip
 pub mod Trials

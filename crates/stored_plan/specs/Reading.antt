@@ -1,14 +1,14 @@
 -- Reading a stored plan: any bytes give a plan or a refusal (rules 2.2).
-use Rattle.std.specs.Prelude.{Bool, ◌&&◌, List, [], ◌∷◌, ℕ, zero, suc, ◌+◌, length, replicate}
+use Rattle.std.specs.Prelude.{Bool, ◌&&◌, List, [], ◌∷◌, ℕ, zero, suc, ◌+◌, length, replicate, Result, Ok, Err}
 use Rattle.walk.specs.Numbers.{le?}
 use Rattle.plan.specs.Places.{eq?}
-use Rattle.refusals.specs.Refusals.{unless, first_refusal}
+use Rattle.refusals.specs.Refusals.{number_of, unless, first_refusal}
+use Rattle.refusals.specs.declared.Refusal.{Refusal}
 use Rattle.plan.specs.Plan.{count_limit, bucket_limit, point_limit, counts_fit, plan_refusal}
 use Rattle.plan.specs.declared.Plan.{Plan}
 use Rattle.little.specs.Little.{field, column, filled}
 use Rattle.stored_plan.specs.Form.{header_size, count_field, buckets_field, threshold_offset_field, bucket_offset_field, delay_field, horizon_field}
 use Rattle.stored_plan.specs.Form.{threshold_entry_size, allowance_field, bucket_entry_size, right_field, bucket_offset, form_size}
-use Rattle.stored_plan.specs.declared.Read.{Read}
 
 module _ (bytes : List ℕ) where
   -- the header's counts
@@ -64,9 +64,19 @@ no_plan = record {
   shares = replicate point_limit 0;
 }
 
+-- a plan that was read, or the number of the refusal, 0 for none; a refused reading hands back zeros in every number of the plan
+pub record Read : Type 0 where
+  pub refusal : ℕ
+  pub plan : Plan
+
 abbrev pub decoded_by : ℕ → List ℕ → Read
 decoded_by zero bytes = record { refusal = 0; plan = plan_in bytes }
 decoded_by (suc r) bytes = record { refusal = suc r; plan = no_plan }
 
 unfoldable pub decoded : List ℕ → Read
 decoded bytes = decoded_by (read_refusal bytes) bytes
+
+-- what code hands back, as such a record
+abbrev pub read_as : Result Plan Refusal → Read
+read_as (Ok p) = record { refusal = 0; plan = p }
+read_as (Err r) = record { refusal = number_of r; plan = no_plan }

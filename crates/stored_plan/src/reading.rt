@@ -1,23 +1,24 @@
 // Reading a stored plan: any bytes give a plan or a refusal (rules 2.2).
-ghost use Rattle.std.specs.Prelude.{◌≡◌, ◌+◌, ◌*◌, ◌≤◌, length};
-ghost use Rattle.plan.specs.Plan.{count_limit, bucket_limit, plan_refusal};
+ghost use Rattle.std.specs.Prelude.{◌≡◌, ℕ, ◌+◌, ◌*◌, ◌≤◌, ◌<◌, length, replicate};
+ghost use Rattle.refusals.specs.Refusals.{refusal_in};
+ghost use Rattle.plan.specs.Plan.{count_limit, bucket_limit};
 ghost use Rattle.little.specs.Little.{column, filled};
-ghost use Rattle.stored_plan.specs.Form.{header_size, threshold_entry_size, allowance_field, bucket_entry_size, right_field, form_size};
-ghost use Rattle.stored_plan.specs.Inner.{plan_from, Blank, Into};
-ghost use Rattle.stored_plan.specs.Reading.{count_in, buckets_in, plan_in, offsets_fit, form_refusal, no_plan, decoded};
+ghost use Rattle.stored_plan.specs.Form.{header_size, form_size};
+ghost use Rattle.stored_plan.specs.Reading.{count_in, buckets_in, plan_in, offsets_fit, form_refusal, decoded, read_as};
 
+use crate::HEADER_SIZE;
 use crate::form::{
     ALLOWANCE_FIELD, BUCKET_ENTRY_SIZE, BUCKET_OFFSET_FIELD, BUCKETS_FIELD, COUNT_FIELD,
     DELAY_FIELD, HORIZON_FIELD, RIGHT_FIELD, THRESHOLD_ENTRY_SIZE, THRESHOLD_OFFSET_FIELD,
     bucket_offset, form_size,
 };
-use crate::order::{first_refusal, unless};
-use crate::{HEADER_SIZE, Head, Read};
-use little::numbers::{read_u16, read_u32, read_u64};
-use plan::rules::{counts_fit, tables_refusal};
-use plan::{BUCKET_LIMIT, COUNT_LIMIT, POINT_LIMIT, Plan};
+use little::numbers::{read_u16, read_u32};
+use little::tables::long_fields_in;
+use plan::rules::counts_fit;
+use plan::{COUNT_LIMIT, POINT_LIMIT, Plan};
+use refusals::{Refusal, ensure};
 
-// The header's offsets are those of its counts.
+// Whether the header's offsets are those of its counts.
 fn offsets_fit(bytes: &[u8]) -> bool
     requires { header_size ≤ length bytes.now }
     ensures { result ≡ offsets_fit bytes.now }
@@ -25,186 +26,75 @@ fn offsets_fit(bytes: &[u8]) -> bool
     let count = read_u16(bytes, COUNT_FIELD);
     let thresholds = read_u16(bytes, THRESHOLD_OFFSET_FIELD) as usize;
     let buckets = read_u16(bytes, BUCKET_OFFSET_FIELD) as usize;
-    if thresholds != HEADER_SIZE {
-        return false;
-    }
-    buckets == bucket_offset(count)
+    thresholds == HEADER_SIZE && buckets == bucket_offset(count)
 }
 
-// The refusal of a form that has a header, before its plan is judged: 1, 7 for offsets, 7 for the length.
-fn form_refusal(bytes: &[u8]) -> u32
+// Whether a form that has a header keeps the rules of forms, before its plan is judged.
+fn judge_form(bytes: &[u8]) -> Result<(), Refusal>
     requires { header_size ≤ length bytes.now }
-    ensures { result ≡ form_refusal bytes.now }
+    ensures { refusal_in result ≡ form_refusal bytes.now }
 {
     let count = read_u16(bytes, COUNT_FIELD);
     let buckets = read_u16(bytes, BUCKETS_FIELD);
-    let counts = unless(counts_fit(count, buckets), 1);
-    let offsets = unless(offsets_fit(bytes), 7);
-    let size = unless(bytes.len() == form_size(count, buckets), 7);
-    first_refusal(counts, first_refusal(offsets, size))
+    ensure(counts_fit(count, buckets), Refusal::Counts)?;
+    ensure(offsets_fit(bytes), Refusal::Form)?;
+    ensure(bytes.len() == form_size(count, buckets), Refusal::Form)
 }
 
-// The thresholds and the allowances of so many entries, into the first places of their tables.
-fn thresholds_in(
+// A table with the numbers of four bytes at an offset and at each stride from there on in its first `count` places, and zeros past them.
+fn table_in<const PLACES: usize>(
     bytes: &[u8],
+    at: usize,
+    stride: usize,
     count: usize,
-    thresholds: &mut [u32; COUNT_LIMIT],
-    allowances: &mut [u64; COUNT_LIMIT],
-)
-    requires { (count ≤ count_limit) × (header_size + threshold_entry_size * count ≤ length bytes.now) }
-    ensures { (thresholds.new ≡ filled count (column 4 header_size threshold_entry_size bytes.now) thresholds.old)
-        × (allowances.new ≡ filled count (column 8 (header_size + allowance_field) threshold_entry_size bytes.now) allowances.old) }
+) -> [u32; PLACES]
+    requires { (count ≤ PLACES) × ((i : ℕ) → i < count → at + stride * i + 4 ≤ length bytes.now) }
+    ensures { result ≡ filled count (column 4 at stride bytes.now) (replicate PLACES 0) }
 {
+    let mut table = [0u32; PLACES];
     for i in 0..count {
-        let at = HEADER_SIZE + THRESHOLD_ENTRY_SIZE * i;
-        thresholds[i] = read_u32(bytes, at);
-        allowances[i] = read_u64(bytes, at + ALLOWANCE_FIELD);
+        table[i] = read_u32(bytes, at + stride * i);
     }
+    table
 }
 
-// The ends of so many buckets whose entries begin at an offset, into the first places of their tables.
-fn buckets_in(
-    bytes: &[u8],
-    from: usize,
-    count: usize,
-    left: &mut [u32; BUCKET_LIMIT],
-    right: &mut [u32; BUCKET_LIMIT],
-)
-    requires { (count ≤ bucket_limit) × (from + bucket_entry_size * count ≤ length bytes.now) }
-    ensures { (left.new ≡ filled count (column 4 from bucket_entry_size bytes.now) left.old)
-        × (right.new ≡ filled count (column 4 (from + right_field) bucket_entry_size bytes.now) right.old) }
-{
-    for j in 0..count {
-        let at = from + BUCKET_ENTRY_SIZE * j;
-        left[j] = read_u32(bytes, at);
-        right[j] = read_u32(bytes, at + RIGHT_FIELD);
-    }
-}
-
-// The plan of a form that its counts and its length fit, which has no points, and its refusal.
-fn plan_in(
-    bytes: &[u8],
-    thresholds: &mut [u32; COUNT_LIMIT],
-    allowances: &mut [u64; COUNT_LIMIT],
-    left: &mut [u32; BUCKET_LIMIT],
-    right: &mut [u32; BUCKET_LIMIT],
-) -> Head
-    requires { ((count_in bytes.now ≤ count_limit) × (buckets_in bytes.now ≤ bucket_limit)
-        × (length bytes.now ≡ form_size (count_in bytes.now) (buckets_in bytes.now)))
-        × Blank thresholds.old allowances.old left.old right.old }
-    ensures { (plan_from result thresholds.new allowances.new left.new right.new ≡ plan_in bytes.now)
-        × (result.refusal ≡ plan_refusal (plan_in bytes.now)) }
+// The plan of a form that its counts and its length fit, which has no points.
+#[tactic(auto, unfolding(crate::specs::Form::form_size, crate::specs::Form::bucket_offset, crate::specs::Reading::count_in, crate::specs::Reading::buckets_in))]
+fn plan_in(bytes: &[u8]) -> Plan
+    requires { (count_in bytes.now ≤ count_limit) × (buckets_in bytes.now ≤ bucket_limit)
+        × (length bytes.now ≡ form_size (count_in bytes.now) (buckets_in bytes.now)) }
+    ensures { result ≡ plan_in bytes.now }
 {
     let count = read_u16(bytes, COUNT_FIELD);
     let buckets = read_u16(bytes, BUCKETS_FIELD);
-    let delay = read_u32(bytes, DELAY_FIELD);
-    let horizon = read_u32(bytes, HORIZON_FIELD);
-    let at = bucket_offset(count);
-    thresholds_in(bytes, count as usize, thresholds, allowances);
-    buckets_in(bytes, at, buckets as usize, left, right);
-    let none = [0u32; POINT_LIMIT];
-    let refusal = tables_refusal(
-        count, buckets, delay, horizon, 0, thresholds, allowances, left, right, &none, &none,
-    );
-    Head {
-        refusal,
+    let k = count as usize;
+    let b = buckets as usize;
+    let ends = bucket_offset(count);
+    let mut allowances = [0u64; COUNT_LIMIT];
+    let at = HEADER_SIZE + ALLOWANCE_FIELD;
+    long_fields_in(bytes, at, THRESHOLD_ENTRY_SIZE, k, &mut allowances);
+    Plan {
         count,
         buckets,
-        delay,
-        horizon,
+        delay: read_u32(bytes, DELAY_FIELD),
+        horizon: read_u32(bytes, HORIZON_FIELD),
+        points: 0,
+        thresholds: table_in(bytes, HEADER_SIZE, THRESHOLD_ENTRY_SIZE, k),
+        allowances,
+        left: table_in(bytes, ends, BUCKET_ENTRY_SIZE, b),
+        right: table_in(bytes, ends + RIGHT_FIELD, BUCKET_ENTRY_SIZE, b),
+        steps: [0; POINT_LIMIT],
+        shares: [0; POINT_LIMIT],
     }
 }
 
-// Refused before the plan is judged.
-fn no_head(r: u32) -> Head
-    ensures { result.refusal ≡ r }
+// The plan that any bytes hold, or the refusal: that of a length under the header's, the form's, the plan's.
+pub fn read_plan(bytes: &[u8]) -> Result<Plan, Refusal>
+    ensures { read_as result ≡ decoded bytes.now }
 {
-    Head {
-        refusal: r,
-        count: 0,
-        buckets: 0,
-        delay: 0,
-        horizon: 0,
-    }
-}
-
-// The plan that any bytes hold, or the refusal: 7 for a length under the header's, then as `form_refusal` says, then the plan's. Its tables are put
-// where they are to stand, into lent zeros: a plan that is handed back is copied.
-pub fn plan_into(
-    bytes: &[u8],
-    thresholds: &mut [u32; COUNT_LIMIT],
-    allowances: &mut [u64; COUNT_LIMIT],
-    left: &mut [u32; BUCKET_LIMIT],
-    right: &mut [u32; BUCKET_LIMIT],
-) -> Head
-    requires { Blank thresholds.old allowances.old left.old right.old }
-    ensures { Into bytes.now result.refusal
-        (plan_from result thresholds.new allowances.new left.new right.new) }
-{
-    if bytes.len() < HEADER_SIZE {
-        return no_head(7);
-    }
-    let form = form_refusal(bytes);
-    if form != 0 {
-        return no_head(form);
-    }
-    plan_in(bytes, thresholds, allowances, left, right)
-}
-
-// A refused reading: zeros in every number of the plan.
-fn refused(r: u32) -> Read
-    ensures { result ≡ record { refusal = r; plan = no_plan } }
-{
-    Read {
-        refusal: r,
-        plan: Plan {
-            count: 0,
-            buckets: 0,
-            delay: 0,
-            horizon: 0,
-            points: 0,
-            thresholds: [0; COUNT_LIMIT],
-            allowances: [0; COUNT_LIMIT],
-            left: [0; BUCKET_LIMIT],
-            right: [0; BUCKET_LIMIT],
-            steps: [0; POINT_LIMIT],
-            shares: [0; POINT_LIMIT],
-        },
-    }
-}
-
-// The plan that any bytes hold, or the refusal.
-pub fn read_plan(bytes: &[u8]) -> Read
-    ensures { result ≡ decoded bytes.now }
-{
-    let mut thresholds = [0u32; COUNT_LIMIT];
-    let mut allowances = [0u64; COUNT_LIMIT];
-    let mut left = [0u32; BUCKET_LIMIT];
-    let mut right = [0u32; BUCKET_LIMIT];
-    let head = plan_into(
-        bytes,
-        &mut thresholds,
-        &mut allowances,
-        &mut left,
-        &mut right,
-    );
-    if head.refusal != 0 {
-        return refused(head.refusal);
-    }
-    Read {
-        refusal: head.refusal,
-        plan: Plan {
-            count: head.count,
-            buckets: head.buckets,
-            delay: head.delay,
-            horizon: head.horizon,
-            points: 0,
-            thresholds,
-            allowances,
-            left,
-            right,
-            steps: [0; POINT_LIMIT],
-            shares: [0; POINT_LIMIT],
-        },
-    }
+    ensure(HEADER_SIZE <= bytes.len(), Refusal::Form)?;
+    judge_form(bytes)?;
+    let plan = plan_in(bytes);
+    plan.judge()?;
+    Ok(plan)
 }

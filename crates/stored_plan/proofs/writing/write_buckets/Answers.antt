@@ -10,15 +10,15 @@ pub loop-j-init : goal.loop-j-init
 loop-j-init c =
     let at = c.bucket_offset-at in
     let a = c.args in
-    put_start (pair 4 4 a.p.left a.p.right) bucket_entry_size (pair-length 4 4 a.p.left a.p.right) at.result a.p.buckets a.bytes.now
+    put_start (pair 4 4 a.p.now.left a.p.now.right) bucket_entry_size (pair-length 4 4 a.p.now.left a.p.now.right) at.result a.p.now.buckets a.bytes.now
 
 pub overflow_add-at : goal.overflow_add-at
 unfolding form_size
 overflow_add-at c = search rules
 
-pub write_bucket-requires : goal.write_bucket-requires
+pub write_two-requires : goal.write_two-requires
 unfolding form_size
-write_bucket-requires c = search rules
+write_two-requires c = search rules
 
 pub loop-j-preserved : goal.loop-j-preserved
 unfolding form_size
@@ -26,8 +26,8 @@ loop-j-preserved c =
     let l = c.loop-j in
     let at = c.bucket_offset-at in
     let a = c.args in
-    let next = put_next (pair 4 4 a.p.left a.p.right) bucket_entry_size (pair-length 4 4 a.p.left a.p.right) at.result a.p.buckets a.bytes.now l.j l.bytes _ l.invariant in
-    next c.loop-j-test.true (search rules) c.write_bucket.ensures (omega arith)
+    let next = put_next (pair 4 4 a.p.now.left a.p.now.right) bucket_entry_size (pair-length 4 4 a.p.now.left a.p.now.right) at.result a.p.now.buckets a.bytes.now l.j l.bytes _ l.invariant in
+    next c.loop-j-test.true (search rules) c.write_two.ensures (omega arith)
 
 pub returns : goal.returns
 unfolding bucket_entries
@@ -35,5 +35,5 @@ returns c =
     let l = c.loop-j in
     let at = c.bucket_offset-at in
     let a = c.args in
-    let put = put_all (pair 4 4 a.p.left a.p.right) bucket_entry_size (pair-length 4 4 a.p.left a.p.right) at.result a.p.buckets a.bytes.now in
+    let put = put_all (pair 4 4 a.p.now.left a.p.now.right) bucket_entry_size (pair-length 4 4 a.p.now.left a.p.now.right) at.result a.p.now.buckets a.bytes.now in
     rw (← at.ensures) (put l.j l.bytes l.invariant (omega arith))

@@ -13,9 +13,9 @@ unfolding header
 returns c =
     let at = c.bucket_offset-at in
     let a = c.args in
-    let counts = to_le 2 a.p.count ++ to_le 2 a.p.buckets in
+    let counts = to_le 2 a.p.now.count ++ to_le 2 a.p.now.buckets in
     let offsets = to_le 2 header_size ++ to_le 2 at.result in
-    let times = to_le 4 a.p.delay ++ to_le 4 a.p.horizon in
+    let times = to_le 4 a.p.now.delay ++ to_le 4 a.p.now.horizon in
     let one = c.write_two.ensures in
     let two = c.write_two-2.ensures in
     let three = c.write_two-3.ensures in

@@ -1,0 +1,37 @@
+-- The rules of the definition, in its order.
+use mathlib.Core.Path.{◌≡◌, sym, ◌∙◌}
+use mathlib.Core.Bool.{true}
+use Rattle.plan.specs.Places.{eq?}
+use Rattle.plan.specs.Plan.{counts_fit}
+use Rattle.refusals.proofs.RefusalLaws.{kept, broken, handed_on}
+use Rattle.plan.proofs.PlaceLaws.{first_one}
+use Rattle.stored_plan.specs.Reading.{count_in, buckets_in, length_fits, form_refusal}
+use Rattle.stored_plan.proofs.reading.judge_form.Goals.{After-ensure, In_ok-ensure, In_ok-ensure-2}
+use Rattle.stored_plan.proofs.reading.judge_form.Goals as goal
+
+-- the counts that are judged are the header's
+counted : (c : After-ensure) → let bytes = c.args.bytes.now in c.counts_fit.result ≡ counts_fit (count_in bytes) (buckets_in bytes)
+unfolding count_in buckets_in
+counted c = rw (c.read_u16-count.ensures.0, c.read_u16-buckets.ensures.0) at c.counts_fit.ensures
+
+passed_counts : (c : In_ok-ensure) → let bytes = c.args.bytes.now in counts_fit (count_in bytes) (buckets_in bytes) ≡ true
+passed_counts c = kept (counted (goal.at.In_ok-ensure c).After-ensure) _ c.in_ok-ensure.ensures
+
+pub returns-in_err-ensure : goal.returns-in_err-ensure
+unfolding form_refusal
+returns-in_err-ensure c =
+    let b = broken (counted (goal.at.returns-in_err-ensure c).After-ensure) _ c.in_err-ensure.field-0.0 c.in_err-ensure.ensures in
+    rw (b.0) (handed_on _ _ c.from_residual.ensures.1 b.1)
+
+pub returns-in_err-ensure-2 : goal.returns-in_err-ensure-2
+unfolding form_refusal
+returns-in_err-ensure-2 c =
+    let b = broken c.offsets_fit.ensures _ c.in_err-ensure-2.field-0.0 c.in_err-ensure-2.ensures in
+    rw (passed_counts (goal.at.returns-in_err-ensure-2 c).In_ok-ensure, b.0) (handed_on _ _ c.from_residual-in_err-ensure-2.ensures.1 b.1)
+
+pub returns : goal.returns
+unfolding form_refusal length_fits count_in buckets_in eq?
+returns c =
+    let in-order = (goal.at.returns c) in
+    rw (passed_counts in-order.In_ok-ensure, kept c.offsets_fit.ensures _ c.in_ok-ensure-2.ensures)
+    (rw (c.form_size.ensures, c.read_u16-count.ensures.0, c.read_u16-buckets.ensures.0) at (c.ensure-3.ensures ∙ sym (first_one _)))
