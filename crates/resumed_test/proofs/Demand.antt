@@ -39,8 +39,7 @@ use Rattle.little.proofs.FilledLaws.{filled-length, filled-get, filled_past}
 use Rattle.saved_test.specs.Form.{form_limit, counts_between, live_by, mark_step, saved_size, saved_form}
 use Rattle.saved_test.specs.Alike.{Alike}
 use Rattle.saved_test.specs.Writing.{write_refusal, saved, bytes_after}
-use Rattle.saved_test.specs.Reading.{state_in, words_in, loaded, words_after}
-use Rattle.saved_test.specs.declared.Loaded.{Loaded}
+use Rattle.saved_test.specs.Reading.{state_in, words_in, Loaded, loaded, words_after}
 use Rattle.saved_test.specs.RoundTrip.{Typed, Savable}
 use Rattle.resumed_test.specs.Saves.{Move, Draw, Save, draws_of, Lends, kept_bytes, reading, reload_refusal, reloaded, moved, AnsweredOver, SavedSince, Recorded, last_walk, state_now, part_now, Demand3Saved, Demand3SavedTheorem}
 use Rattle.saved_test.proofs.Sizes.{form-length}

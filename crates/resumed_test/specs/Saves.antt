@@ -20,8 +20,7 @@ use Rattle.bucket_test.specs.declared.Answer.TheVariants.{Open as OpenAnswer, Re
 use Rattle.saved_test.specs.Form.{form_limit, mark_step}
 use Rattle.saved_test.specs.Alike.{Alike}
 use Rattle.saved_test.specs.Writing.{saved, bytes_after}
-use Rattle.saved_test.specs.Reading.{loaded, words_after}
-use Rattle.saved_test.specs.declared.Loaded.{Loaded}
+use Rattle.saved_test.specs.Reading.{Loaded, loaded, words_after}
 
 -- a draw of any value, or a save: the test is written into these lent bytes, its state and words are lost, and it is read into these lent words
 pub data Move : Type 0 where

@@ -1,7 +1,6 @@
 -- What the code of src/reading.rt leaves to do, in plain variables.
 use mathlib.Core.Path.{◌≡◌, refl, sym, ap, ◌∙◌}
-use mathlib.Core.Logic.{◌↔◌}
-use mathlib.Core.List.{List, [], ◌∷◌, ◌++◌}
+use mathlib.Core.List.{List, ◌++◌}
 use Prim.Native.Nat.{ℕ, zero, suc, ◌-◌, ◌+◌, ◌*◌, ◌^◌, ◌≤◌, ◌<◌}
 use native.Mathlib.Numerals.{add-one}
 use native.Mathlib.Omega.{arith}
@@ -17,9 +16,14 @@ use Rattle.walk.proofs.SoundnessLaws.{boundaries_say}
 use Rattle.walk.proofs.Tests.{and_true, le?_complete, le?_fails}
 use lib.Dec.{eqb}
 use lib.IntN.{ℤ}
-use Rattle.plan.specs.Places.{eq?, all_to, join_to}
-use Rattle.refusals.specs.Refusals.{unless, first_refusal}
-use Rattle.plan.proofs.PlaceLaws.{eq?_complete, eq?_fails, eq_reads, all_reads, all_cong, first_some, none_both, none_says, last_says}
+use Rattle.plan.specs.Places.{eq?, all_to}
+use Rattle.std.specs.Prelude.{Result, Ok}
+use Rattle.std.specs.Result.{IsErrAnd}
+use Rattle.std.proofs.lemmas.Result.{err_from_is_err_and}
+use Rattle.refusals.specs.Refusals.{number_of}
+use Rattle.refusals.specs.declared.Refusal.{Refusal}
+use Rattle.refusals.proofs.RefusalLaws.{number_is}
+use Rattle.plan.proofs.PlaceLaws.{eq?_complete, eq?_fails, all_reads, all_cong, first_some}
 use mir.Syntax.{w32}
 use mir.Val.{to_z, of_z}
 use mir.ValLaws.{to_z-of_z, to_z-Fits}
@@ -32,13 +36,11 @@ use Rattle.little.proofs.FilledLaws.{filled-over, filled-take}
 use Rattle.plan.specs.declared.Plan.{Plan}
 use Rattle.bucket_test.specs.declared.State.{State}
 use Rattle.plan.specs.Plan.{count_limit, spending_of, plan_refusal}
-use Rattle.bucket_test.specs.Words.{words_fit}
 use Rattle.bucket_test.specs.Turn.{record_at, numbers_sound, record_sound, record_sound_at}
 use Rattle.bucket_test.specs.Draw.{state_sound, no_state}
-use Rattle.saved_test.specs.declared.Loaded.{Loaded}
 use Rattle.saved_test.specs.Form.{header_size, record_size, draws_field, ones_field, mass_size, record_offset, form_size, counts_between, live_count, masses_to}
-use Rattle.saved_test.specs.Inner.{RecordsAndMasses}
-use Rattle.saved_test.specs.Reading.{mark_of, record_from, record_in, record_fits, mass_offset, part_in, masses_in, header_fits, form_fits, state_in, words_in, read_refusal, loaded, words_after}
+use Rattle.saved_test.specs.Inner.{RecordsAndMasses, part_passes}
+use Rattle.saved_test.specs.Reading.{mark_of, record_from, record_in, record_fits, mass_offset, part_in, masses_in, header_fits, form_fits, state_in, words_in, read_refusal, Loaded, loaded_as, loaded, words_after}
 use Rattle.saved_test.proofs.Judged.{gap_live}
 use Rattle.saved_test.proofs.HeldLaws.{record_held, part_held}
 use Rattle.saved_test.proofs.Refusals.{record_says, form_says}
@@ -159,31 +161,6 @@ module _ (p : Plan) (bytes : List ℕ) (form : form_fits p bytes ≡ true) where
     sized = ((form_says p bytes).0 form).sized;
   }
 
--- ---- plan, 8 and 15, before the test is judged
-
--- of a reading into m words
-abbrev pub form_judged : Plan → List ℕ → ℕ → ℕ
-form_judged p bytes m = first_refusal (plan_refusal p ∷ unless (eq? m (wide * p.count)) 8 ∷ unless (form_fits p bytes) 15 ∷ [])
-
-module _ (p : Plan) (bytes : List ℕ) (m r : ℕ) (is : r ≡ plan_refusal p) where
-  pub judged-plan : ¬ (r ≡ 0) → r ≡ form_judged p bytes m
-  judged-plan n = rw (← is) (sym (first_some r (unless (eq? m (wide * p.count)) 8 ∷ unless (form_fits p bytes) 15 ∷ []) n))
-
-  module _ (good : r ≡ 0) where
-    pub judged_8 : ¬ (m ≡ wide * p.count) → 8 ≡ form_judged p bytes m
-    judged_8 n = rw (← is, good, eq?_fails m (wide * p.count) n)
-
-    pub judged-form : m ≡ wide * p.count → (b : Bool) → form_fits p bytes ≡ b → unless b 15 ≡ form_judged p bytes m
-    judged-form size true e = rw (← is, good, eq?_complete m (wide * p.count) size, e)
-    judged-form size false e = rw (← is, good, eq?_complete m (wide * p.count) size, e)
-
-pub form-judged : (p : Plan) (bytes : List ℕ) (m : ℕ)
-    → (form_judged p bytes m ≡ 0) ↔ ((plan_refusal p ≡ 0) × ((m ≡ wide * p.count) × (form_fits p bytes ≡ true)))
-form-judged p bytes m =
-    none_both (plan_refusal p) (unless (eq? m (wide * p.count)) 8 ∷ unless (form_fits p bytes) 15 ∷ []) (λ e. e, λ e. e)
-    (none_says (eq? m (wide * p.count)) 7 (unless (form_fits p bytes) 15 ∷ []) (eq_reads m (wide * p.count))
-    (last_says (form_fits p bytes) 14 (λ e. e, λ e. e)))
-
 -- ---- refusal 11, part by part
 
 -- an open record whose numbers pass, by its masses
@@ -233,8 +210,7 @@ pub sound_held : (p : Plan) (bytes : List ℕ) (n ones : ℕ) (few : p.count ≤
 sound_held p bytes n ones few i l = rw (record_held p bytes few i l, part_held p bytes i l)
 
 -- n and S of the test that bytes hold are judged first, then the thresholds
-module _ (p : Plan) (bytes : List ℕ) (horizon : ℕ) (last : p.horizon ≡ horizon) (n ones : ℕ) (n_is : n ≡ field 4 draws_field bytes)
-    (ones_is : ones ≡ field 4 ones_field bytes) where
+module _ (p : Plan) (bytes : List ℕ) (n ones : ℕ) (n_is : n ≡ field 4 draws_field bytes) (ones_is : ones ≡ field 4 ones_field bytes) where
   n_held : (state_in p bytes).n ≡ n
   unfolding state_in
   n_held = sym n_is
@@ -246,66 +222,41 @@ module _ (p : Plan) (bytes : List ℕ) (horizon : ℕ) (last : p.horizon ≡ hor
   abbrev is_sound_in : Bool
   is_sound_in = state_sound p (state_in p bytes) (words_in p bytes)
 
-  pub sound_late : horizon < n → false ≡ is_sound_in
+  pub sound_late : p.horizon < n → false ≡ is_sound_in
   unfolding state_sound
   sound_late h = rw (n_held, le?_fails n p.horizon (omega arith))
 
-  module _ (early : n ≤ horizon) where
+  module _ (early : n ≤ p.horizon) where
     pub sound_ones : n < ones → false ≡ is_sound_in
     unfolding state_sound
-    sound_ones h = rw (n_held, ones_held, le?_complete n p.horizon (omega arith), le?_fails ones n h)
+    sound_ones h = rw (n_held, ones_held, le?_complete n p.horizon early, le?_fails ones n h)
 
-    pub sound_parts : ones ≤ n → p.count ≤ count_limit → (b : Bool)
-        → b ≡ all_to p.count (λ i. record_sound (spending_of p i n) n ones (record_in bytes i).mark (record_in bytes i) (part_in bytes p.count i))
-        → b ≡ is_sound_in
+    pub sound_parts : ones ≤ n → p.count ≤ count_limit → (b : Bool) → b ≡ all_to p.count (part_passes p bytes n ones) → b ≡ is_sound_in
     unfolding state_sound
     sound_parts h few b e =
-        rw (n_held, ones_held, le?_complete n p.horizon (omega arith), le?_complete ones n h)
+        rw (n_held, ones_held, le?_complete n p.horizon early, le?_complete ones n h)
         (e ∙ sym (all_cong p.count _ _ (λ i l. sound_held p bytes n ones few i l)))
 
 -- ---- each way out of a reading
 
 module _ (p : Plan) (bytes words : List ℕ) where
-  abbrev Hands : Loaded → List ℕ → Type 0
-  Hands r ws = (r ≡ loaded p bytes words) × (ws ≡ words_after p bytes words)
+  abbrev Hands : Result State Refusal → List ℕ → Type 0
+  Hands r ws = (loaded_as r ≡ loaded p bytes words) × (ws ≡ words_after p bytes words)
 
-  some : (r : ℕ) → ¬ (r ≡ 0) → read_refusal p bytes words ≡ r → (l : Loaded) → l ≡ record { refusal = r; state = no_state } → Hands l words
+  -- a refusal that `?` hands on
+  pub read_refused : (r : Result State Refusal) (d : Refusal) → IsErrAnd r (λ f. f ≡ d) → number_of d ≡ read_refusal p bytes words → Hands r words
   unfolding loaded words_after
-  some zero n e l h = absurd (n refl)
-  some (suc r) n e l h = rw (e, h) (refl, refl)
-
-  abbrev sound : Bool
-  sound = state_sound p (state_in p bytes) (words_in p bytes)
-
-  -- the same four tests, the first three of them judged first
-  by_form : read_refusal p bytes words ≡ first_refusal (form_judged p bytes (length words) ∷ unless sound 11 ∷ [])
-  unfolding read_refusal words_fit
-  by_form = go (plan_refusal p) (eq? (length words) (wide * p.count)) (form_fits p bytes) (unless sound 11)
+  read_refused r d h e = let q = err_from_is_err_and r h in rw (q.1, q.2) (go (number_of d) (number_is d) e)
     where
-      go : (r : ℕ) (w f : Bool) (q : ℕ)
-          → first_refusal (r ∷ unless w 8 ∷ unless f 15 ∷ q ∷ []) ≡ first_refusal (first_refusal (r ∷ unless w 8 ∷ unless f 15 ∷ []) ∷ q ∷ [])
-      go (suc r) w f q = refl
-      go zero false f q = refl
-      go zero true false q = refl
-      go zero true true q = refl
+      go : (n : ℕ) → 1 ≤ n → n ≡ read_refusal p bytes words
+          → (◌≡◌ {A = Loaded} (record { refusal = n; state = no_state }) (loaded p bytes words)) × (words ≡ words_after p bytes words)
+      go zero l e = absurd (omega (arith, l))
+      go (suc n) l e = rw (← e) (refl, refl)
 
-  module _ (r : ℕ) (is : r ≡ form_judged p bytes (length words)) where
-    pub read-form : ¬ (r ≡ 0) → (l : Loaded) → l ≡ record { refusal = r; state = no_state } → Hands l words
-    read-form n = some r n (by_form ∙ rw (← is) (first_some r (unless sound 11 ∷ []) n))
+  pub read_plan : (d : Refusal) → number_of d ≡ plan_refusal p → number_of d ≡ read_refusal p bytes words
+  unfolding read_refusal
+  read_plan d e = rw (← e) (sym (first_some (number_of d) _ (λ z. omega (arith, number_is d, z))))
 
-    module _ (good : r ≡ 0) where
-      read_by : (b : Bool) → sound ≡ b → read_refusal p bytes words ≡ unless b 11
-      read_by true e = by_form ∙ rw (← is, good, e)
-      read_by false e = by_form ∙ rw (← is, good, e)
-
-      pub read_11 : sound ≡ false → (l : Loaded) → l ≡ record { refusal = 11; state = no_state } → Hands l words
-      read_11 e = some 11 (λ z. omega arith) (read_by false e)
-
-      pub read_none : sound ≡ true → (s : State) → s ≡ state_in p bytes → (ws : List ℕ) → ws ≡ words_in p bytes
-          → Hands (record { refusal = 0; state = s }) ws
-      unfolding loaded words_after
-      read_none e s se ws we = rw (read_by true e, se, we) (refl, refl)
-
-pub words_made : (p : Plan) (bytes xs : List ℕ) → xs ≡ join_to p.count (part_in bytes p.count) → xs ≡ words_in p bytes
-unfolding words_in
-words_made p bytes xs e = e
+  pub read_none : read_refusal p bytes words ≡ 0 → (s : State) → s ≡ state_in p bytes → (ws : List ℕ) → ws ≡ words_in p bytes → Hands (Ok s) ws
+  unfolding loaded words_after
+  read_none none s se ws we = rw (none, se, we) (refl, refl)

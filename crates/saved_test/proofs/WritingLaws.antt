@@ -1,33 +1,36 @@
 -- What the code of src/writing.rt leaves to do, in plain variables.
 use mathlib.Core.Path.{◌≡◌, refl, sym, ap, ◌∙◌}
-use mathlib.Core.Bool.{Bool, true, false}
-use mathlib.Core.List.{List, [], ◌∷◌, ◌++◌, append_assoc}
+use mathlib.Core.Bool.{true}
+use mathlib.Core.List.{List, ◌++◌, append_assoc}
 use Prim.Native.Nat.{ℕ, zero, suc, ◌+◌, ◌*◌, ◌≤◌, ◌<◌}
 use native.Mathlib.Numerals.{add-one}
 use native.Mathlib.Omega.{arith}
+use lib.Dec.{leb}
 use lib.ListN.{length, drop, get_or, length-append}
 use mir.Syntax.{w32}
 use mir.Val.{of_z}
 use Rattle.walk.specs.Units.{wide}
 use Rattle.plan.specs.Places.{join_to}
-use Rattle.refusals.specs.Refusals.{unless}
+use Rattle.std.specs.Prelude.{Result, Ok}
+use Rattle.std.specs.Result.{IsErrAnd}
+use Rattle.std.proofs.lemmas.Result.{err_from_is_err_and}
+use Rattle.refusals.specs.Refusals.{number_of}
+use Rattle.refusals.specs.declared.Refusal.{Refusal}
+use Rattle.refusals.proofs.RefusalLaws.{number_is}
 use Rattle.plan.specs.Plan.{count_limit, plan_refusal}
-use Rattle.bucket_test.specs.Words.{part_at, words_fit}
+use Rattle.bucket_test.specs.Words.{part_at}
 use Rattle.bucket_test.specs.Turn.{no_record, record_at}
 use Rattle.bucket_test.specs.Draw.{state_sound}
 use Rattle.plan.specs.declared.Plan.{Plan}
 use Rattle.bucket_test.specs.declared.Threshold.{Threshold}
 use Rattle.bucket_test.specs.declared.State.{State}
-use Rattle.plan.proofs.PlaceLaws.{eq?_fails, first_some, first_one}
-use Rattle.bucket_test.proofs.PartLaws.{words_say}
+use Rattle.plan.proofs.PlaceLaws.{first_some}
 use Rattle.little.specs.Little.{to_le, put_at}
 use Rattle.little.proofs.LittleLaws.{to_length}
 use Rattle.little.proofs.Putting.{then, put_first, put_drop}
 use Rattle.saved_test.specs.Form.{header_size, record_size, mass_size, record_offset, form_size, live_count, masses_to, mark_code, mark_step, record_bytes, mass_bytes, saved_masses, saved_size, header, saved_header, record_entries, mass_entries, saved_form}
-use Rattle.saved_test.specs.Writing.{save_refusal, write_refusal, saved_by, bytes_by, saved, bytes_after}
-use Rattle.saved_test.specs.declared.Saved.{Saved}
+use Rattle.saved_test.specs.Writing.{save_refusal, write_refusal, Saved, saved_as, saved, bytes_after}
 use Rattle.walk.specs.Numbers.{le?}
-use Rattle.walk.proofs.Tests.{le?_complete, le?_fails}
 use Rattle.plan.proofs.AcceptedLaws.{accepted}
 use Rattle.saved_test.proofs.Judged.{save_says, known_at, masses_few}
 use Rattle.saved_test.proofs.Sizes.{masses_length, header-length, front_length, entries_length}
@@ -89,23 +92,6 @@ module _ (records : ℕ → Threshold) (parts : ℕ → List ℕ) where
   masses_next at i b b' b'' e f h =
       rw (add-one i) (then at (join_to i entry) (entry i) b b' b'' (at + 8 * masses_to records i) e f h (rw (masses_length records parts i)))
 
--- ---- refusals
-
-module _ (p : Plan) (s : State) (words : List ℕ) (r : ℕ) (is : r ≡ plan_refusal p) where
-  pub save_plan : ¬ (r ≡ 0) → r ≡ save_refusal p s words
-  unfolding save_refusal
-  save_plan n = rw (← is) (sym (first_some r (unless (words_fit p words) 8 ∷ unless (state_sound p s words) 11 ∷ []) n))
-
-  module _ (good : r ≡ 0) where
-    pub save_8 : ¬ (length words ≡ wide * p.count) → 8 ≡ save_refusal p s words
-    unfolding save_refusal words_fit
-    save_8 n = rw (← is, good, eq?_fails (length words) (wide * p.count) n)
-
-    pub save_by : length words ≡ wide * p.count → (b : Bool) → state_sound p s words ≡ b → unless b 11 ≡ save_refusal p s words
-    unfolding save_refusal
-    save_by size true e = rw (← is, good, (words_say p words).1 size, e)
-    save_by size false e = rw (← is, good, (words_say p words).1 size, e)
-
 -- ---- the masses of a threshold, as code puts them
 
 module _ (records : List Threshold) (words : List ℕ) (base i n at : ℕ) (live : n ≡ live_count (get_or records i no_record))
@@ -128,19 +114,6 @@ module _ (records : List Threshold) (words : List ℕ) (base i n at : ℕ) (live
 -- ---- a form that is put
 
 module _ (p : Plan) (s : State) (words bytes : List ℕ) where
-  abbrev room : ℕ
-  room = unless (le? (saved_size p s) (length bytes)) 12
-
-  abbrev Puts : Saved → List ℕ → Type 0
-  Puts r bs = (r ≡ saved_by p s words room) × (bs ≡ bytes_by p s words room bytes)
-
-  module _ (size : ℕ) (is : size ≡ saved_size p s) where
-    pub put_12 : length bytes < size → Puts (record { refusal = 12; size = 0 }) bytes
-    put_12 h = rw (le?_fails (saved_size p s) (length bytes) (omega arith)) (refl, refl)
-
-    pub put_none : size ≤ length bytes → (b : List ℕ) → b ≡ saved_form p s words ++ drop (saved_size p s) bytes → Puts (record { refusal = 0; size = size }) b
-    put_none h b e = rw (le?_complete (saved_size p s) (length bytes) (omega arith), is, e) (refl, refl)
-
   -- masses first, then header and records in front of them
   pub form_put : (b₁ b₂ : List ℕ)
       → b₁ ≡ put_at (header_size + record_size * p.count) (join_to p.count (λ i. mass_bytes (live_count (record_at s i)) (part_at i words))) bytes
@@ -168,6 +141,11 @@ pub size_is : (p : Plan) (s : State) (masses : ℕ) → masses ≡ saved_masses 
 unfolding form_size record_offset
 size_is p s masses e = rw e
 
+-- .. is compared with the room that there is
+pub as_room : {r v : ℕ} → r ≡ v → (x : ℕ) → leb r x ≡ le? v x
+unfolding le?
+as_room e x = ap (λ (y : ℕ). leb y x) e
+
 -- at most 769 masses for each threshold
 pub few_masses : (p : Plan) (s : State) (masses : ℕ) → masses ≡ saved_masses p s → p.count ≤ count_limit
     → ((i : ℕ) → i < p.count → live_count (record_at s i) ≤ wide) → masses ≤ wide * count_limit
@@ -177,24 +155,29 @@ few_masses p s masses e few each = rw e (omega (arith, masses_few (record_at s) 
 -- ---- each way out of a writing
 
 module _ (p : Plan) (s : State) (words bytes : List ℕ) where
-  abbrev Hands : Saved → List ℕ → Type 0
-  Hands r bs = (r ≡ saved p s words bytes) × (bs ≡ bytes_after p s words bytes)
+  abbrev Hands : Result ℕ Refusal → List ℕ → Type 0
+  Hands r bs = (saved_as r ≡ saved p s words bytes) × (bs ≡ bytes_after p s words bytes)
 
-  module _ (r : ℕ) (is : r ≡ save_refusal p s words) where
-    pub write_some : ¬ (r ≡ 0) → Hands (record { refusal = r; size = 0 }) bytes
-    unfolding saved bytes_after write_refusal
-    write_some n = go r n first
-      where
-        first : write_refusal p s words bytes ≡ r
-        first = rw (← is) (first_some r (room p s words bytes ∷ []) n)
+  -- a refusal that `?` hands on
+  pub write_refused : (r : Result ℕ Refusal) (d : Refusal) → IsErrAnd r (λ f. f ≡ d) → number_of d ≡ write_refusal p s words bytes → Hands r bytes
+  unfolding saved bytes_after
+  write_refused r d h e = let q = err_from_is_err_and r h in rw (q.1, q.2) (go (number_of d) (number_is d) e)
+    where
+      go : (n : ℕ) → 1 ≤ n → n ≡ write_refusal p s words bytes
+          → (◌≡◌ {A = Saved} (record { refusal = n; size = 0 }) (saved p s words bytes)) × (bytes ≡ bytes_after p s words bytes)
+      go zero l e = absurd (omega (arith, l))
+      go (suc n) l e = rw (← e) (refl, refl)
 
-        go : (q : ℕ) → ¬ (q ≡ 0) → write_refusal p s words bytes ≡ q → Hands (record { refusal = q; size = 0 }) bytes
-        go zero n e = absurd (n refl)
-        go (suc q) n e = rw e (refl, refl)
+  pub write_plan : (d : Refusal) → number_of d ≡ plan_refusal p → number_of d ≡ write_refusal p s words bytes
+  unfolding write_refusal save_refusal
+  write_plan d e =
+      let some : ¬ (number_of d ≡ 0) = λ z. omega (arith, number_is d, z) in
+      rw (← e, first_some (number_of d) _ some) (sym (first_some (number_of d) _ some))
 
-    pub write_put : r ≡ 0 → write_refusal p s words bytes ≡ room p s words bytes
-    unfolding write_refusal
-    write_put good = rw (← is, good) (first_one (room p s words bytes))
+  pub write_none : write_refusal p s words bytes ≡ 0 → (n : ℕ) → n ≡ saved_size p s → (bs : List ℕ) → bs ≡ saved_form p s words ++ drop (saved_size p s) bytes
+      → Hands (Ok n) bs
+  unfolding saved bytes_after
+  write_none none n ne bs be = rw (none, ne, be) (refl, refl)
 
 -- what a test that may be saved gives to the functions that write
 module _ (p : Plan) (s : State) (words : List ℕ) (may : save_refusal p s words ≡ 0) where

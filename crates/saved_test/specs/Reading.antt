@@ -1,5 +1,5 @@
 -- Reading a saved test into lent words (saved 3): any bytes give a test or a refusal.
-use Rattle.std.specs.Prelude.{Bool, true, ◌&&◌, ◌||◌, List, [], ◌∷◌, ℕ, zero, suc, ◌+◌, ◌*◌, length, replicate}
+use Rattle.std.specs.Prelude.{Bool, true, ◌&&◌, ◌||◌, List, [], ◌∷◌, ℕ, zero, suc, ◌+◌, ◌*◌, length, replicate, Result, Ok, Err}
 use Rattle.std.specs.Int.{w32}
 use Rattle.std.proofs.Common.{to_z}
 use Rattle.walk.specs.Units.{wide}
@@ -7,7 +7,8 @@ use Rattle.walk.specs.declared.Mark.{Mark}
 use Rattle.walk.specs.declared.Mark.TheVariants.{Open, Above, AtMost}
 use Rattle.walk.specs.declared.Walked.{Walked}
 use Rattle.plan.specs.Places.{eq?, within, all_to, over_to, join_to}
-use Rattle.refusals.specs.Refusals.{unless, first_refusal}
+use Rattle.refusals.specs.Refusals.{number_of, unless, first_refusal}
+use Rattle.refusals.specs.declared.Refusal.{Refusal}
 use Rattle.plan.specs.Plan.{count_limit, plan_refusal}
 use Rattle.plan.specs.declared.Plan.{Plan}
 use Rattle.bucket_test.specs.Words.{words_fit}
@@ -19,7 +20,15 @@ use Rattle.little.specs.Little.{field, column, filled}
 use Rattle.saved_test.specs.Form.{header_size, count_field, masses_field, record_offset_field, mass_offset_field, size_field, draws_field, ones_field}
 use Rattle.saved_test.specs.Form.{record_size_field, mass_size_field, record_size, step_field, lower_field, upper_field, over_field, under_field, rounded_field, mass_size}
 use Rattle.saved_test.specs.Form.{record_offset, form_size, counts_between, live_count, masses_to}
-use Rattle.saved_test.specs.declared.Loaded.{Loaded}
+
+-- a test that was read, or the number of the refusal, 0 for none; a refused reading hands back zeros in every number and open marks
+pub record Loaded : Type 0 where
+  pub refusal : ℕ
+  pub state : State
+
+abbrev pub loaded_as : Result State Refusal → Loaded
+loaded_as (Ok s) = record { refusal = 0; state = s }
+loaded_as (Err r) = record { refusal = number_of r; state = no_state }
 
 -- ---- what the bytes hold
 

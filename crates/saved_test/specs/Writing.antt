@@ -1,14 +1,23 @@
 -- Writing a test into lent bytes (saved 2).
-use Rattle.std.specs.Prelude.{List, [], ◌∷◌, ◌++◌, ℕ, zero, suc, length, drop}
+use Rattle.std.specs.Prelude.{List, [], ◌∷◌, ◌++◌, ℕ, zero, suc, length, drop, Result, Ok, Err}
 use Rattle.walk.specs.Numbers.{le?}
-use Rattle.refusals.specs.Refusals.{unless, first_refusal}
+use Rattle.refusals.specs.Refusals.{number_of, unless, first_refusal}
+use Rattle.refusals.specs.declared.Refusal.{Refusal}
 use Rattle.plan.specs.Plan.{plan_refusal}
 use Rattle.plan.specs.declared.Plan.{Plan}
 use Rattle.bucket_test.specs.Words.{words_fit}
 use Rattle.bucket_test.specs.Draw.{state_sound}
 use Rattle.bucket_test.specs.declared.State.{State}
 use Rattle.saved_test.specs.Form.{saved_size, saved_form}
-use Rattle.saved_test.specs.declared.Saved.{Saved}
+
+-- the number of bytes written, or the number of the refusal, 0 for none
+pub record Saved : Type 0 where
+  pub refusal : ℕ
+  pub size : ℕ
+
+abbrev pub saved_as : Result ℕ Refusal → Saved
+saved_as (Ok n) = record { refusal = 0; size = n }
+saved_as (Err r) = record { refusal = number_of r; size = 0 }
 
 module _ (p : Plan) (s : State) (words : List ℕ) where
   -- of a test that is to be saved: plan, 8, 11

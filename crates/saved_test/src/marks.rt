@@ -17,7 +17,7 @@ const ABOVE: u32 = 1;
 
 const AT_MOST: u32 = 2;
 
-pub(crate) fn code_of(m: Mark) -> u32
+pub fn code_of(m: Mark) -> u32
     ensures { result ≡ mark_code m }
 {
     match m {
@@ -28,7 +28,7 @@ pub(crate) fn code_of(m: Mark) -> u32
 }
 
 // The step of a mark, 0 where it is open.
-pub(crate) fn step_of(m: Mark) -> u32
+pub fn step_of(m: Mark) -> u32
     ensures { result ≡ mark_step m }
 {
     match m {

@@ -1,10 +1,9 @@
 // Reading a saved test (saved 3): any bytes give a test or a refusal.
-ghost use Rattle.std.specs.Prelude.{◌≡◌, ◌&&◌, [], ◌∷◌, ℕ, ◌+◌, ◌*◌, ◌^◌, ◌≤◌, ◌<◌, length, get_or, replicate};
+ghost use Rattle.std.specs.Prelude.{◌≡◌, true, ◌&&◌, ◌+◌, ◌*◌, ◌^◌, ◌≤◌, length, replicate};
 ghost use Rattle.walk.specs.Units.{million, wide, allowance_limit, horizon_limit};
 ghost use Rattle.walk.specs.Spending.{portioned};
 ghost use Rattle.walk.specs.Weighing.{Weighs};
 ghost use Rattle.plan.specs.Places.{eq?, all_to, over_to, join_to};
-ghost use Rattle.refusals.specs.Refusals.{unless, first_refusal};
 ghost use Rattle.plan.specs.Plan.{count_limit, plan_refusal};
 ghost use Rattle.plan.specs.Tables.{portion_of};
 ghost use Rattle.bucket_test.specs.Turn.{start_record, record_sound};
@@ -12,10 +11,9 @@ ghost use Rattle.bucket_test.specs.Draw.{state_sound, no_state};
 ghost use Rattle.little.specs.Little.{field, column, filled};
 ghost use Rattle.saved_test.specs.Form.{header_size, count_field, masses_field, record_offset_field, mass_offset_field, size_field, record_size_field, mass_size_field};
 ghost use Rattle.saved_test.specs.Form.{draws_field, record_size, step_field, mass_size, live_count, masses_to};
-ghost use Rattle.saved_test.specs.Reading.{mark_known, count_fits, record_from, record_in, record_fits, part_in, state_in, words_in, form_fits, loaded, words_after};
-ghost use Rattle.saved_test.specs.Inner.{RecordsAndMasses};
+ghost use Rattle.saved_test.specs.Reading.{mark_known, count_fits, record_from, record_in, record_fits, part_in, state_in, words_in, form_fits, loaded_as, loaded, words_after};
+ghost use Rattle.saved_test.specs.Inner.{RecordsAndMasses, part_passes};
 
-use crate::Loaded;
 use crate::form::{
     COUNT_FIELD, DRAWS_FIELD, HEADER_SIZE, LOWER_FIELD, MASS_OFFSET_FIELD, MASS_SIZE,
     MASS_SIZE_FIELD, MASSES_FIELD, ONES_FIELD, OVER_FIELD, RECORD_OFFSET_FIELD, RECORD_SIZE,
@@ -28,14 +26,13 @@ use bucket_test::starting::{no_walked, ten_of};
 use bucket_test::{State, Threshold};
 use little::numbers::{read_u16, read_u32, read_u64};
 use little::tables::long_fields_in;
-use plan::rules::plan_refusal;
-use plan::spending::portion_at;
 use plan::{COUNT_LIMIT, Plan};
+use refusals::{Refusal, ensure};
 use walk::row::clear_from;
 use walk::soundness::{masses_sound, weigh_next, weigh_none};
 use walk::spending::spending_at;
 use walk::starting::start_walked;
-use walk::{Mark, Portion, WIDE, Walked, Weighed};
+use walk::{Mark, WIDE, Walked, Weighed};
 
 // The record at an offset. Its mark comes first: its cases part the code, and the compiler makes one load of a field only where they do not.
 pub fn record_from(bytes: &[u8], at: usize) -> Threshold
@@ -153,9 +150,9 @@ fn records_in(bytes: &[u8], count: usize) -> [Threshold; COUNT_LIMIT]
 }
 
 // The state that the bytes hold.
-fn state_in(p: Plan, bytes: &[u8]) -> State
-    requires { (p.count ≤ count_limit) × (header_size + record_size * p.count ≤ length bytes.now) }
-    ensures { result ≡ state_in p bytes.now }
+fn state_in(p: &Plan, bytes: &[u8]) -> State
+    requires { (p.now.count ≤ count_limit) × (header_size + record_size * p.now.count ≤ length bytes.now) }
+    ensures { result ≡ state_in p.now bytes.now }
 {
     let n = read_u32(bytes, DRAWS_FIELD);
     let ones = read_u32(bytes, ONES_FIELD);
@@ -168,11 +165,12 @@ fn state_in(p: Plan, bytes: &[u8]) -> State
     }
 }
 
-// Refusal 15, under a plan with so many thresholds.
-pub fn form_fits(bytes: &[u8], count: usize) -> bool
-    requires { count ≤ count_limit }
-    ensures { (p : Plan) → p.count ≡ count → result ≡ form_fits p bytes.now }
+// Refusal 15, under a plan with at most ten thresholds.
+pub fn form_fits(p: &Plan, bytes: &[u8]) -> bool
+    requires { p.now.count ≤ count_limit }
+    ensures { result ≡ form_fits p.now bytes.now }
 {
+    let count = p.count as usize;
     let offset = HEADER_SIZE + RECORD_SIZE * count;
     if bytes.len() < offset {
         return false;
@@ -206,10 +204,11 @@ fn part_in(bytes: &[u8], at: usize, count: usize, part: &mut [u64])
 }
 
 // The words that the bytes hold, where the form fits.
-fn parts_in(bytes: &[u8], count: usize, words: &mut [u64])
-    requires { (count ≤ count_limit) × (length words.old ≡ wide * count) × RecordsAndMasses count bytes.now }
-    ensures { words.new ≡ join_to count (part_in bytes.now count) }
+fn parts_in(p: &Plan, bytes: &[u8], words: &mut [u64])
+    requires { (p.now.count ≤ count_limit) × (length words.old ≡ wide * p.now.count) × RecordsAndMasses p.now.count bytes.now }
+    ensures { words.new ≡ words_in p.now bytes.now }
 {
+    let count = p.count as usize;
     let mut at = HEADER_SIZE + RECORD_SIZE * count;
     for i in 0..count {
         let t = record_from(bytes, HEADER_SIZE + RECORD_SIZE * i);
@@ -252,24 +251,17 @@ fn record_sound_in(bytes: &[u8], at: usize, t: Threshold, e: u64, n: u32, ones: 
     }
 }
 
-// Whether each of the thresholds that the bytes hold passes refusal 11, where the form fits, with such a portion of each allowance to spend.
-fn parts_sound(
-    allowances: &[u64; COUNT_LIMIT],
-    count: usize,
-    portion: Portion,
-    bytes: &[u8],
-    n: u32,
-    ones: u32,
-) -> bool
-    requires { (count ≤ count_limit) × ((i : ℕ) → i < count → get_or allowances.now i 0 ≤ allowance_limit) × (portion.numerator ≤ million) × (1 ≤ portion.denominator)
-        × RecordsAndMasses count bytes.now }
-    ensures { result ≡ all_to count (λ i. record_sound (portioned portion (get_or allowances.now i 0)) n ones
-        (record_in bytes.now i).mark (record_in bytes.now i) (part_in bytes.now count i)) }
+// Whether each of the thresholds that the bytes hold passes refusal 11 after n draws with so many ones.
+fn parts_sound(p: &Plan, bytes: &[u8], n: u32, ones: u32) -> bool
+    requires { (plan_refusal p.now ≡ 0) × (n ≤ horizon_limit) × RecordsAndMasses p.now.count bytes.now }
+    ensures { result ≡ all_to p.now.count (part_passes p.now bytes.now n ones) }
 {
+    let count = p.count as usize;
+    let portion = p.portion_at(n);
     let mut at = HEADER_SIZE + RECORD_SIZE * count;
     for i in 0..count {
         let t = record_from(bytes, HEADER_SIZE + RECORD_SIZE * i);
-        let e = spending_at(allowances[i], portion);
+        let e = spending_at(p.allowances[i], portion);
         if !record_sound_in(bytes, at, t, e, n, ones) {
             return false;
         }
@@ -278,80 +270,25 @@ fn parts_sound(
     true
 }
 
-// Refusal 11 of the test that the bytes hold, where the form fits, under a plan with these allowances, of at most ten, and this portion of each to
-// spend after the draws that the bytes tell.
-pub fn state_sound_in(
-    allowances: &[u64; COUNT_LIMIT],
-    count: usize,
-    portion: Portion,
-    horizon: u32,
-    bytes: &[u8],
-) -> bool
-    requires { (count ≤ count_limit) × ((i : ℕ) → i < count → get_or allowances.now i 0 ≤ allowance_limit)
-        × (field 4 draws_field bytes.now ≤ horizon_limit → (portion.numerator ≤ million) × (1 ≤ portion.denominator)) × (horizon ≤ horizon_limit)
-        × RecordsAndMasses count bytes.now }
-    ensures { (p : Plan) → p.count ≡ count → p.allowances ≡ allowances.now → portion_of p (field 4 draws_field bytes.now) ≡ portion
-        → p.horizon ≡ horizon
-        → result ≡ state_sound p (state_in p bytes.now) (words_in p bytes.now) }
+// Refusal 11 of the test that the bytes hold, where the plan is accepted and the form fits.
+pub fn state_sound_in(p: &Plan, bytes: &[u8]) -> bool
+    requires { (plan_refusal p.now ≡ 0) × (form_fits p.now bytes.now ≡ true) }
+    ensures { result ≡ state_sound p.now (state_in p.now bytes.now) (words_in p.now bytes.now) }
 {
     let n = read_u32(bytes, DRAWS_FIELD);
     let ones = read_u32(bytes, ONES_FIELD);
-    if n > horizon {
-        return false;
-    }
-    if ones > n {
-        return false;
-    }
-    parts_sound(allowances, count, portion, bytes, n, ones)
-}
-
-// The first refusal of a reading into so many words before the test is judged: plan, 8, 15.
-fn form_refusal(p: Plan, bytes: &[u8], words: usize) -> u32
-    ensures { result ≡ first_refusal (plan_refusal p ∷ unless (eq? words (wide * p.count)) 8 ∷ unless (form_fits p bytes.now) 15 ∷ []) }
-{
-    let bad = plan_refusal(p);
-    if bad != 0 {
-        return bad;
-    }
-    if words != WIDE * p.count as usize {
-        return 8;
-    }
-    if !form_fits(bytes, p.count as usize) {
-        return 15;
-    }
-    0
-}
-
-// A refused reading: zeros in every number, and open marks.
-fn refused(r: u32) -> Loaded
-    ensures { result ≡ record { refusal = r; state = no_state } }
-{
-    let state = ten_of(no_walked());
-    Loaded {
-        refusal: r,
-        state: state,
-    }
+    n <= p.horizon && ones <= n && parts_sound(p, bytes, n, ones)
 }
 
 // The test that any bytes hold under any plan, into any lent words, or the refusal: plan, 8, 15, 11. On a refusal no word changes.
-pub fn read_test(p: Plan, bytes: &[u8], words: &mut [u64]) -> Loaded
-    ensures { (result ≡ loaded p bytes.now words.old)
-        × (words.new ≡ words_after p bytes.now words.old) }
+pub fn read_test(p: &Plan, bytes: &[u8], words: &mut [u64]) -> Result<State, Refusal>
+    ensures { (loaded_as result ≡ loaded p.now bytes.now words.old) × (words.new ≡ words_after p.now bytes.now words.old) }
 {
-    let bad = form_refusal(p, bytes, words.len());
-    if bad != 0 {
-        return refused(bad);
-    }
-    let count = p.count as usize;
-    let n = read_u32(bytes, DRAWS_FIELD);
-    let portion = portion_at(p.delay, p.points, &p.steps, &p.shares, n);
-    if !state_sound_in(&p.allowances, count, portion, p.horizon, bytes) {
-        return refused(11);
-    }
+    p.judge()?;
+    ensure(words.len() == WIDE * p.count as usize, Refusal::Words)?;
+    ensure(form_fits(p, bytes), Refusal::SavedForm)?;
+    ensure(state_sound_in(p, bytes), Refusal::Spoiled)?;
     let state = state_in(p, bytes);
-    parts_in(bytes, count, words);
-    Loaded {
-        refusal: 0,
-        state: state,
-    }
+    parts_in(p, bytes, words);
+    Ok(state)
 }

@@ -1,17 +1,14 @@
 // Writing a test into lent bytes (saved 2).
 ghost use Rattle.std.specs.Prelude.{◌≡◌, ◌++◌, ℕ, ◌+◌, ◌*◌, ◌≤◌, ◌<◌, length, get_or};
 ghost use Rattle.walk.specs.Units.{wide};
-ghost use Rattle.walk.specs.Numbers.{le?};
 ghost use Rattle.plan.specs.Places.{join_to};
-ghost use Rattle.refusals.specs.Refusals.{unless};
 ghost use Rattle.plan.specs.Plan.{count_limit};
 ghost use Rattle.bucket_test.specs.Words.{part_at};
 ghost use Rattle.bucket_test.specs.Turn.{no_record, record_at};
 ghost use Rattle.little.specs.Little.{put_at};
 ghost use Rattle.saved_test.specs.Form.{header_size, record_size, mass_size, live_count, masses_to, record_bytes, mass_bytes, record_offset, saved_size, header, saved_header, record_entries};
-ghost use Rattle.saved_test.specs.Writing.{save_refusal, saved_by, bytes_by, saved, bytes_after};
+ghost use Rattle.saved_test.specs.Writing.{saved_as, saved, bytes_after};
 
-use crate::Saved;
 use crate::form::{
     COUNT_FIELD, HEADER_SIZE, LOWER_FIELD, MASS_SIZE, MASS_SIZE_FIELD, ONES_FIELD, OVER_FIELD,
     RECORD_OFFSET_FIELD, RECORD_SIZE, ROUNDED_FIELD, SIZE_FIELD, UNDER_FIELD,
@@ -21,8 +18,8 @@ use crate::signed::bits_of;
 use bucket_test::judging::state_sound;
 use bucket_test::{State, Threshold};
 use little::numbers::{write_le, write_two};
-use plan::rules::plan_refusal;
 use plan::{COUNT_LIMIT, Plan};
+use refusals::{Refusal, ensure};
 use walk::WIDE;
 
 // A record at an offset.
@@ -103,62 +100,27 @@ pub fn write_header(bytes: &mut [u8], count: usize, masses: usize, n: u32, ones:
 }
 
 // Header and records of a test, in front of its masses.
-pub fn write_front(bytes: &mut [u8], p: Plan, s: State)
-    requires { (p.count ≤ count_limit) × ((i : ℕ) → i < p.count → live_count (record_at s i) ≤ wide) × (record_offset p.count ≤ length bytes.old) }
-    ensures { bytes.new ≡ put_at 0 (saved_header p s ++ record_entries p s) bytes.old }
+pub fn write_front(bytes: &mut [u8], p: &Plan, s: &State)
+    requires { (p.now.count ≤ count_limit) × ((i : ℕ) → i < p.now.count → live_count (record_at s.now i) ≤ wide) × (record_offset p.now.count ≤ length bytes.old) }
+    ensures { bytes.new ≡ put_at 0 (saved_header p.now s.now ++ record_entries p.now s.now) bytes.old }
 {
     let count = p.count as usize;
-    let records = s.records;
-    let masses = masses_of(records, count);
+    let masses = masses_of(s.records, count);
     write_header(bytes, count, masses, s.n, s.ones);
-    write_records(bytes, count, records);
-}
-
-// The form of a test, which has been judged, into any lent bytes, or refusal 12.
-fn put_form(p: Plan, s: State, words: &[u64], bytes: &mut [u8]) -> Saved
-    requires { (p.count ≤ count_limit) × (length words.now ≡ wide * p.count) × ((i : ℕ) → i < p.count → live_count (record_at s i) ≤ wide) }
-    ensures { (result ≡ saved_by p s words.now (unless (le? (saved_size p s) (length bytes.old)) 12))
-        × (bytes.new ≡ bytes_by p s words.now (unless (le? (saved_size p s) (length bytes.old)) 12) bytes.old) }
-{
-    let count = p.count as usize;
-    let records = s.records;
-    let size = HEADER_SIZE + RECORD_SIZE * count + MASS_SIZE * masses_of(records, count);
-    if bytes.len() < size {
-        return Saved {
-            refusal: 12,
-            size: 0,
-        };
-    }
-    write_masses(bytes, count, records, words);
-    write_front(bytes, p, s);
-    Saved { refusal: 0, size }
-}
-
-// The refusal of a test that is to be saved: plan, 8, 11.
-fn save_refusal(p: Plan, s: State, words: &[u64]) -> u32
-    ensures { result ≡ save_refusal p s words.now }
-{
-    let bad = plan_refusal(p);
-    if bad != 0 {
-        return bad;
-    }
-    if words.len() != WIDE * p.count as usize {
-        return 8;
-    }
-    if !state_sound(p, s, words) {
-        return 11;
-    }
-    0
+    write_records(bytes, count, s.records);
 }
 
 // The form of any test into any lent bytes, or the refusal: plan, 8, 11, 12. On a refusal no byte changes.
-pub fn write_test(p: Plan, s: State, words: &[u64], bytes: &mut [u8]) -> Saved
-    ensures { (result ≡ saved p s words.now bytes.old)
-        × (bytes.new ≡ bytes_after p s words.now bytes.old) }
+pub fn write_test(p: &Plan, s: &State, words: &[u64], bytes: &mut [u8]) -> Result<usize, Refusal>
+    ensures { (saved_as result ≡ saved p.now s.now words.now bytes.old) × (bytes.new ≡ bytes_after p.now s.now words.now bytes.old) }
 {
-    let refusal = save_refusal(p, s, words);
-    if refusal != 0 {
-        return Saved { refusal, size: 0 };
-    }
-    put_form(p, s, words, bytes)
+    p.judge()?;
+    let count = p.count as usize;
+    ensure(words.len() == WIDE * count, Refusal::Words)?;
+    ensure(state_sound(*p, *s, words), Refusal::Spoiled)?;
+    let size = HEADER_SIZE + RECORD_SIZE * count + MASS_SIZE * masses_of(s.records, count);
+    ensure(size <= bytes.len(), Refusal::Room)?;
+    write_masses(bytes, count, s.records, words);
+    write_front(bytes, p, s);
+    Ok(size)
 }

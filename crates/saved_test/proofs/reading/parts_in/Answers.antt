@@ -1,6 +1,6 @@
 -- The parts before place i are read.
 use Rattle.saved_test.proofs.ReadingLaws.{part_made, held_few, held_inside, offset_next, offset_first}
-use Rattle.saved_test.specs.Reading.{record_in, part_in}
+use Rattle.saved_test.specs.Reading.{record_in, part_in, words_in}
 use Rattle.saved_test.specs.Form.{record_offset, form_size, live_count}
 use Rattle.bucket_test.proofs.TurningLaws.{part_length, part_lent, words_none, words_all, part_put}
 use Rattle.bucket_test.specs.declared.Threshold.{Threshold}
@@ -15,7 +15,7 @@ use Rattle.saved_test.proofs.reading.parts_in.Goals as goal
 
 pub loop-i-init : goal.loop-i-init
 unfolding wide
-loop-i-init c = let a = c.args in (omega arith, c.requires.1, refl, words_none (part_in a.bytes.now a.count) a.words.now, offset_first a.bytes.now a.count)
+loop-i-init c = let a = c.args in (omega arith, c.requires.1, refl, words_none (part_in a.bytes.now a.p.now.count) a.words.now, offset_first a.bytes.now a.p.now.count)
 
 pub record_from-t-requires : goal.record_from-t-requires
 unfolding form_size record_offset
@@ -39,7 +39,7 @@ unfolding wide
 part_in-requires c =
     let l = c.loop-i in
     let k = fits-at (goal.at.part_in-requires c).After-live_count-n in (
-      rw (part_lent l.i l.words) (part_length l.words c.args.count l.i (l.invariant.2 ∙ l.invariant.1) c.loop-i-test.true),
+      rw (part_lent l.i l.words) (part_length l.words c.args.p.now.count l.i (l.invariant.2 ∙ l.invariant.1) c.loop-i-test.true),
       k.0,
       k.1,
     )
@@ -54,16 +54,17 @@ pub loop-i-preserved : goal.loop-i-preserved
 loop-i-preserved c =
     let here = (goal.at.loop-i-preserved c).After-live_count-n in
     let l = c.loop-i in
-    let made = part_made c.args.bytes.now c.args.count l.i _ _ _ (live_is here) l.invariant.4 c.part_in.ensures in (
+    let made = part_made c.args.bytes.now c.args.p.now.count l.i _ _ _ (live_is here) l.invariant.4 c.part_in.ensures in (
       omega arith,
       l.invariant.1,
       search rules,
-      part_put (part_in c.args.bytes.now c.args.count) _ l.i (omega arith) l.words l.invariant.2 l.invariant.3 _ made,
-      rw (live_is here, l.invariant.4) (offset_next c.args.bytes.now c.args.count l.i),
+      part_put (part_in c.args.bytes.now c.args.p.now.count) _ l.i (omega arith) l.words l.invariant.2 l.invariant.3 _ made,
+      rw (live_is here, l.invariant.4) (offset_next c.args.bytes.now c.args.p.now.count l.i),
     )
 
 pub returns : goal.returns
+unfolding words_in
 returns c =
     let a = c.args in
     let l = c.loop-i in
-    l.invariant.3 ∙ words_all (part_in a.bytes.now a.count) a.words.now a.count l.i c.requires.1 (omega arith)
+    l.invariant.3 ∙ words_all (part_in a.bytes.now a.p.now.count) a.words.now a.p.now.count l.i c.requires.1 (omega arith)

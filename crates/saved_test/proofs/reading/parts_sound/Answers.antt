@@ -1,66 +1,75 @@
 -- The thresholds before place i pass.
 use mathlib.Core.Path.{◌≡◌, ap, ◌∙◌}
 use mathlib.Core.Bool.{false}
-use Prim.Native.Nat.{ℕ, ◌+◌, ◌*◌, ◌≤◌}
+use Prim.Native.Nat.{◌+◌, ◌*◌, ◌≤◌}
 use native.Mathlib.Omega.{arith}
 use lib.ListN.{length}
 use Rattle.walk.specs.Units.{wide}
 use Rattle.plan.proofs.PlaceLaws.{passed, failed, sought_none, sought_next, sought_here, sought_nowhere}
+use Rattle.plan.proofs.AcceptedLaws.{accepted}
+use Rattle.plan.proofs.SpendingLaws.{spent_is, may_spend}
 use Rattle.bucket_test.specs.declared.Threshold.{Threshold}
 use Rattle.saved_test.specs.Form.{record_offset, form_size, live_count}
 use Rattle.saved_test.specs.Reading.{record_in, mass_offset}
+use Rattle.saved_test.specs.Inner.{part_passes}
 use Rattle.saved_test.proofs.ReadingLaws.{offset_first, held_few, held_inside, held_next, held_sound}
-use Rattle.saved_test.proofs.reading.parts_sound.Invariants.{passes}
 use Rattle.saved_test.proofs.reading.parts_sound.Goals.{After-record_from-t, After-record_sound_in}
 use Rattle.saved_test.proofs.reading.parts_sound.Goals as goal
+
+pub portion_at-portion-requires : goal.portion_at-portion-requires
+portion_at-portion-requires c = ((accepted _).0 c.requires.0).points_sound.few
+
+pub overflow_mul-at : goal.overflow_mul-at
+overflow_mul-at c = let k = ((accepted _).0 c.requires.0).count_range.1 in omega arith
+
+pub overflow_add-at : goal.overflow_add-at
+overflow_add-at c = let k = ((accepted _).0 c.requires.0).count_range.1 in omega arith
 
 pub loop-i-init : goal.loop-i-init
 loop-i-init c = (offset_first _ _, sought_none false _)
 
 pub record_from-t-requires : goal.record_from-t-requires
 unfolding form_size record_offset
-record_from-t-requires c = omega (arith, c.requires.4.sized, c.loop-i-test.true)
+record_from-t-requires c = omega (arith, c.requires.2.sized, c.loop-i-test.true)
 
 -- what is known of the threshold at place i
 module _ (c : After-record_from-t) where
-  abbrev i : ℕ
-  i = c.loop-i.i
-
-  is : c.record_from-t.result ≡ record_in c.args.bytes.now i
+  is : c.record_from-t.result ≡ record_in c.args.bytes.now c.loop-i.i
   unfolding record_offset
   is = c.record_from-t.ensures
 
-  live : live_count c.record_from-t.result ≡ live_count (record_in c.args.bytes.now i)
+  live : live_count c.record_from-t.result ≡ live_count (record_in c.args.bytes.now c.loop-i.i)
   live = ap (λ (t : Threshold). live_count t) is
 
   lent : (live_count c.record_from-t.result ≤ wide)
       × (c.loop-i.at + 8 * live_count c.record_from-t.result ≤ length c.args.bytes.now)
-      × (c.loop-i.at + 8 * live_count c.record_from-t.result ≡ mass_offset c.args.bytes.now c.args.count (i + 1))
+      × (c.loop-i.at + 8 * live_count c.record_from-t.result ≡ mass_offset c.args.bytes.now c.args.p.now.count (c.loop-i.i + 1))
   lent =
       let l = c.loop-i in
       let h = c.loop-i-test.true in (
-        held_few _ _ c.requires.4 i h _ l.at live l.invariant.0,
-        held_inside _ _ c.requires.4 i h _ l.at live l.invariant.0,
-        held_next _ _ c.requires.4 i h _ l.at live l.invariant.0,
+        held_few _ _ c.requires.2 l.i h _ l.at live l.invariant.0,
+        held_inside _ _ c.requires.2 l.i h _ l.at live l.invariant.0,
+        held_next _ _ c.requires.2 l.i h _ l.at live l.invariant.0,
       )
+
+pub bounds-p-i : goal.bounds-p-i
+bounds-p-i c = let k = ((accepted _).0 c.requires.0).count_range.1 in omega arith
 
 pub spending_at-e-requires : goal.spending_at-e-requires
 spending_at-e-requires c =
-    (c.requires.1 (i (goal.at.spending_at-e-requires c).After-record_from-t) c.loop-i-test.true, c.requires.2, c.requires.3)
+    may_spend _ ((accepted _).0 c.requires.0) c.loop-i.i c.args.n c.loop-i-test.true c.requires.1 _ c.portion_at-portion.ensures
 
 pub record_sound_in-requires : goal.record_sound_in-requires
 record_sound_in-requires c = let b = (goal.at.record_sound_in-requires c).After-record_from-t in ((lent b).0, (lent b).1)
 
-judged : (c : After-record_sound_in)
-    → let a = c.args in
-    c.record_sound_in.result ≡ passes a.allowances.now a.count a.portion a.bytes.now a.n a.ones c.loop-i.i
+judged : (c : After-record_sound_in) → let a = c.args in c.record_sound_in.result ≡ part_passes a.p.now a.bytes.now a.n a.ones c.loop-i.i
 unfolding record_offset
 judged c =
     let l = c.loop-i in
     let is : c.record_from-t.result ≡ record_in c.args.bytes.now l.i = c.record_from-t.ensures in
     c.record_sound_in.ensures
-    ∙ rw c.spending_at-e.ensures
-    (held_sound _ _ c.requires.4 c.loop-i.i c.loop-i-test.true _ l.at (ap (λ (t : Threshold). live_count t) is) l.invariant.0 _ is _ _ _)
+    ∙ rw (spent_is c.args.p.now l.i c.args.n _ _ c.portion_at-portion.ensures c.spending_at-e.ensures)
+    (held_sound _ _ c.requires.2 l.i c.loop-i-test.true _ l.at (ap (λ (t : Threshold). live_count t) is) l.invariant.0 _ is _ _ _)
 
 pub returns-then-not-record_sound_in : goal.returns-then-not-record_sound_in
 returns-then-not-record_sound_in c =

@@ -1,64 +1,80 @@
 -- The refusals in their order, then the words.
-use mathlib.Core.Path.{◌≡◌, refl, sym, ap, ◌∙◌}
+use mathlib.Core.Path.{◌≡◌, refl, sym}
 use mathlib.Core.Bool.{true}
 use Prim.Native.Nat.{◌*◌, ◌≤◌}
-use native.Mathlib.Omega.{arith}
 use lib.ListN.{length}
 use Rattle.walk.specs.Units.{wide}
+use Rattle.refusals.proofs.RefusalLaws.{kept, broken}
 use Rattle.plan.specs.Plan.{count_limit, plan_refusal}
-use Rattle.plan.specs.Tables.{portion_of}
 use Rattle.plan.proofs.AcceptedLaws.{accepted}
-use Rattle.plan.proofs.SpendingLaws.{portion_fits}
-use Rattle.plan.proofs.PlaceLaws.{passed, failed}
-use Rattle.little.specs.Little.{field}
-use Rattle.saved_test.specs.Form.{draws_field}
-use Rattle.saved_test.specs.Reading.{form_fits}
-use Rattle.saved_test.proofs.ReadingLaws.{form-judged, form_long, form_held, read-form, read_11, read_none, words_made}
-use Rattle.saved_test.proofs.reading.read_test.Goals.{After-portion_at-portion, Else-bad-ne0}
+use Rattle.bucket_test.specs.Words.{words_fit}
+use Rattle.bucket_test.specs.Draw.{state_sound}
+use Rattle.bucket_test.proofs.PartLaws.{words_say}
+use Rattle.saved_test.specs.Reading.{form_fits, state_in, words_in, read_refusal}
+use Rattle.saved_test.proofs.ReadingLaws.{form_long, form_held, as_read, read_refused, read_plan, read_none}
+use Rattle.saved_test.proofs.reading.read_test.Goals.{In_ok-judge, After-ensure, In_ok-ensure, In_ok-ensure-2, In_ok-ensure-3}
 use Rattle.saved_test.proofs.reading.read_test.Goals as goal
 
-pub returns-then-bad-ne0 : goal.returns-then-bad-ne0
-returns-then-bad-ne0 c = read-form _ _ _ _ c.form_refusal-bad.ensures c.if-bad-ne0.true _ c.refused.ensures
+-- ---- what was passed, in its order
 
--- what is known where the form fits
-module _ (c : Else-bad-ne0) where
-  fit : (plan_refusal c.args.p ≡ 0)
-      × ((length c.args.words.now ≡ wide * c.args.p.count) × (form_fits c.args.p c.args.bytes.now ≡ true))
-  fit = (form-judged c.args.p c.args.bytes.now (length c.args.words.now)).0 (sym c.form_refusal-bad.ensures ∙ c.if-bad-ne0.false)
+accepts : (c : In_ok-judge) → plan_refusal c.args.p.now ≡ 0
+accepts c = sym c.in_ok-judge.ensures
 
-  few : c.args.p.count ≤ count_limit
-  few = ((accepted c.args.p).0 fit.0).count_range.1
+fits : (c : In_ok-ensure) → words_fit c.args.p.now c.args.words.now ≡ true
+unfolding wide words_fit
+fits c = kept (as_read refl _) _ c.in_ok-ensure.ensures
 
-pub read_u32-n-requires : goal.read_u32-n-requires
-read_u32-n-requires c = omega (arith, form_long _ _ (fit (goal.at.read_u32-n-requires c).Else-bad-ne0).1.1)
+form : (c : In_ok-ensure-2) → form_fits c.args.p.now c.args.bytes.now ≡ true
+form c = kept c.form_fits.ensures _ c.in_ok-ensure-2.ensures
 
-pub portion_at-portion-requires : goal.portion_at-portion-requires
-portion_at-portion-requires c = ((accepted _).0 (fit (goal.at.portion_at-portion-requires c).Else-bad-ne0).0).points_sound.few
+sound : (c : In_ok-ensure-3) → let a = c.args in state_sound a.p.now (state_in a.p.now a.bytes.now) (words_in a.p.now a.bytes.now) ≡ true
+sound c = kept c.state_sound_in.ensures _ c.in_ok-ensure-3.ensures
 
-portion : (c : After-portion_at-portion) → let a = c.args in c.portion_at-portion.result ≡ portion_of a.p (field 4 draws_field a.bytes.now)
-portion c = c.portion_at-portion.ensures _ refl refl refl refl ∙ ap (portion_of _) c.read_u32-n.ensures.0
+few : (c : In_ok-judge) → c.args.p.now.count ≤ count_limit
+few c = ((accepted _).0 (accepts c)).count_range.1
+
+-- ---- the needs
+
+pub form_fits-requires : goal.form_fits-requires
+form_fits-requires c = few (goal.at.form_fits-requires c).In_ok-judge
 
 pub state_sound_in-requires : goal.state_sound_in-requires
-state_sound_in-requires c =
-    let at_else_bad_ne0 = (goal.at.state_sound_in-requires c).Else-bad-ne0 in
-    let ok = (accepted _).0 (fit at_else_bad_ne0).0 in
-    (few at_else_bad_ne0, λ i l. (ok.allowance_range i l).1, λ early. rw (portion (goal.at.state_sound_in-requires c).After-portion_at-portion) (portion_fits _ ok _ early), ok.horizon_range.1, form_held _ _ (fit at_else_bad_ne0).1.1)
-
-pub returns-then-not-state_sound_in : goal.returns-then-not-state_sound_in
-returns-then-not-state_sound_in c =
-    read_11 _ _ _ _ c.form_refusal-bad.ensures c.if-bad-ne0.false
-    (failed (c.state_sound_in.ensures _ refl refl (sym (portion (goal.at.returns-then-not-state_sound_in c).After-portion_at-portion)) refl) c.if-not-state_sound_in.true-raw) _ c.refused-then-not-state_sound_in.ensures
+state_sound_in-requires c = (accepts (goal.at.state_sound_in-requires c).In_ok-judge, form (goal.at.state_sound_in-requires c).In_ok-ensure-2)
 
 pub state_in-state-requires : goal.state_in-state-requires
-state_in-state-requires c = let b = (goal.at.state_in-state-requires c).Else-bad-ne0 in (few b, form_long _ _ (fit b).1.1)
+state_in-state-requires c = (few (goal.at.state_in-state-requires c).In_ok-judge, form_long _ _ (form (goal.at.state_in-state-requires c).In_ok-ensure-2))
 
 pub parts_in-requires : goal.parts_in-requires
-parts_in-requires c =
-    let here = (goal.at.parts_in-requires c).Else-bad-ne0 in
-    (few here, (fit here).1.0, form_held _ _ (fit here).1.1)
+parts_in-requires c = (few (goal.at.parts_in-requires c).In_ok-judge, (words_say _ _).0 (fits (goal.at.parts_in-requires c).In_ok-ensure), form_held _ _ (form (goal.at.parts_in-requires c).In_ok-ensure-2))
+
+-- ---- what is handed back
+
+pub returns-in_err-judge : goal.returns-in_err-judge
+returns-in_err-judge c = read_refused _ _ _ _ _ c.from_residual.ensures.1 (read_plan _ _ _ _ c.in_err-judge.ensures)
+
+pub returns-in_err-ensure : goal.returns-in_err-ensure
+unfolding read_refusal words_fit wide
+returns-in_err-ensure c =
+    let b = broken (as_read {r = length c.args.words.now} refl (wide * c.args.p.now.count)) _ _ c.in_err-ensure.ensures in
+    read_refused _ _ _ _ _ c.from_residual-in_err-ensure.ensures.1 (rw (accepts (goal.at.returns-in_err-ensure c).In_ok-judge, b.0) b.1)
+
+pub returns-in_err-ensure-2 : goal.returns-in_err-ensure-2
+unfolding read_refusal
+returns-in_err-ensure-2 c =
+    let b = broken c.form_fits.ensures _ _ c.in_err-ensure-2.ensures in
+    read_refused _ _ _ _ _ c.from_residual-in_err-ensure-2.ensures.1
+    (rw (accepts (goal.at.returns-in_err-ensure-2 c).In_ok-judge, fits (goal.at.returns-in_err-ensure-2 c).In_ok-ensure, b.0) b.1)
+
+pub returns-in_err-ensure-3 : goal.returns-in_err-ensure-3
+unfolding read_refusal
+returns-in_err-ensure-3 c =
+    let b = broken c.state_sound_in.ensures _ _ c.in_err-ensure-3.ensures in
+    read_refused _ _ _ _ _ c.from_residual-in_err-ensure-3.ensures.1
+    (rw (accepts (goal.at.returns-in_err-ensure-3 c).In_ok-judge, fits (goal.at.returns-in_err-ensure-3 c).In_ok-ensure, form (goal.at.returns-in_err-ensure-3 c).In_ok-ensure-2, b.0) b.1)
 
 pub returns : goal.returns
+unfolding read_refusal
 returns c =
-    read_none _ _ _ _ c.form_refusal-bad.ensures c.if-bad-ne0.false
-    (passed (c.state_sound_in.ensures _ refl refl (sym (portion (goal.at.returns c).After-portion_at-portion)) refl) c.if-not-state_sound_in.false-raw) _
-    c.state_in-state.ensures _ (words_made _ _ _ c.parts_in.ensures)
+    read_none _ _ _
+    (rw (accepts (goal.at.returns c).In_ok-judge, fits (goal.at.returns c).In_ok-ensure, form (goal.at.returns c).In_ok-ensure-2, sound (goal.at.returns c).In_ok-ensure-3))
+    _ c.state_in-state.ensures _ c.parts_in.ensures

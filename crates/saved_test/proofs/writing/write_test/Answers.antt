@@ -1,20 +1,97 @@
--- The refusals in their order, then the form.
-use mathlib.Core.Path.{sym, ◌∙◌}
-use Rattle.saved_test.specs.Writing.{saved, bytes_after}
-use Rattle.saved_test.proofs.WritingLaws.{write_some, write_put, counts_few, words_size, live_few}
+-- The refusals in their order, then the words.
+use mathlib.Core.Path.{◌≡◌, refl, sym}
+use mathlib.Core.Bool.{true}
+use Prim.Native.Nat.{◌+◌, ◌*◌, ◌≤◌}
+use native.Mathlib.Omega.{arith}
+use lib.ListN.{length}
+use Rattle.walk.specs.Units.{wide}
+use Rattle.walk.proofs.Tests.{le?_sound, le?_complete}
+use Rattle.refusals.proofs.RefusalLaws.{kept, broken}
+use Rattle.plan.specs.Plan.{plan_refusal}
+use Rattle.bucket_test.specs.Words.{words_fit}
+use Rattle.bucket_test.proofs.PartLaws.{words_say}
+use Rattle.saved_test.specs.Form.{header_size, record_size, mass_size, record_offset, form_size, saved_size}
+use Rattle.saved_test.specs.Writing.{save_refusal, write_refusal}
+use Rattle.saved_test.proofs.ReadingLaws.{as_read}
+use Rattle.saved_test.proofs.WritingLaws.{counts_few, words_size, live_few, size_is, as_room, form_put, write_refused, write_plan, write_none}
+use Rattle.saved_test.proofs.writing.write_test.Goals.{In_ok-judge, In_ok-ensure, In_ok-ensure-2, In_ok-ensure-3, After-masses_of}
 use Rattle.saved_test.proofs.writing.write_test.Goals as goal
 
-pub returns-then-refusal-ne0 : goal.returns-then-refusal-ne0
-returns-then-refusal-ne0 c = write_some _ _ _ _ _ c.save_refusal-refusal.ensures c.if-refusal-ne0.true
+-- ---- what was passed, in its order
 
-pub put_form-requires : goal.put_form-requires
-put_form-requires c =
-    let may = sym c.save_refusal-refusal.ensures ∙ c.if-refusal-ne0.false in
-    (counts_few _ _ _ may, words_size _ _ _ may, live_few _ _ _ may)
+accepts : (c : In_ok-judge) → plan_refusal c.args.p.now ≡ 0
+accepts c = sym c.in_ok-judge.ensures
+
+fits : (c : In_ok-ensure) → words_fit c.args.p.now c.args.words.now ≡ true
+unfolding wide words_fit
+fits c = kept (as_read refl _) _ c.in_ok-ensure.ensures
+
+may : (c : In_ok-ensure-2) → save_refusal c.args.p.now c.args.s.now c.args.words.now ≡ 0
+unfolding save_refusal words_fit wide
+may c =
+    let fits = kept (as_read {r = length c.args.words.now} refl (wide * c.args.p.now.count)) _ c.in_ok-ensure.ensures in
+    rw (← c.in_ok-judge.ensures, fits, kept c.state_sound.ensures _ c.in_ok-ensure-2.ensures)
+
+-- the size, and its room
+size : (c : After-masses_of) → header_size + record_size * c.args.p.now.count + mass_size * c.masses_of.result ≡ saved_size c.args.p.now c.args.s.now
+size c = size_is c.args.p.now c.args.s.now _ c.masses_of.ensures.0
+
+room : (c : In_ok-ensure-3) → saved_size c.args.p.now c.args.s.now ≤ length c.args.bytes.now
+room c = le?_sound _ _ (kept (as_room (size_is c.args.p.now c.args.s.now _ c.masses_of.ensures.0) (length c.args.bytes.now)) _ c.in_ok-ensure-3.ensures)
+
+-- ---- the needs
+
+pub state_sound-requires : goal.state_sound-requires
+state_sound-requires c = (accepts (goal.at.state_sound-requires c).In_ok-judge, (words_say _ _).0 (fits (goal.at.state_sound-requires c).In_ok-ensure))
+
+pub masses_of-requires : goal.masses_of-requires
+masses_of-requires c = counts_few _ _ _ (may (goal.at.masses_of-requires c).In_ok-ensure-2)
+
+pub overflow_mul-size-2 : goal.overflow_mul-size-2
+overflow_mul-size-2 c = let k = counts_few _ _ _ (may (goal.at.overflow_mul-size-2 c).In_ok-ensure-2) in omega (arith, c.masses_of.ensures.1)
+
+pub overflow_add-size-2 : goal.overflow_add-size-2
+overflow_add-size-2 c = let k = counts_few _ _ _ (may (goal.at.overflow_add-size-2 c).In_ok-ensure-2) in omega (arith, c.masses_of.ensures.1)
+
+pub write_masses-requires : goal.write_masses-requires
+unfolding form_size record_offset
+write_masses-requires c =
+    let ok = may (goal.at.write_masses-requires c).In_ok-ensure-2 in
+    (counts_few _ _ _ ok, words_size _ _ _ ok, live_few _ _ _ ok, room (goal.at.write_masses-requires c).In_ok-ensure-3)
+
+pub write_front-requires : goal.write_front-requires
+unfolding form_size record_offset
+write_front-requires c =
+    let ok = may (goal.at.write_front-requires c).In_ok-ensure-2 in
+    (counts_few _ _ _ ok, live_few _ _ _ ok, omega (arith, room (goal.at.write_front-requires c).In_ok-ensure-3))
+
+-- ---- what is handed back
+
+pub returns-in_err-judge : goal.returns-in_err-judge
+returns-in_err-judge c = write_refused _ _ _ _ _ _ c.from_residual.ensures.1 (write_plan _ _ _ _ _ c.in_err-judge.ensures)
+
+pub returns-in_err-ensure : goal.returns-in_err-ensure
+unfolding write_refusal save_refusal words_fit wide
+returns-in_err-ensure c =
+    let b = broken (as_read {r = length c.args.words.now} refl (wide * c.args.p.now.count)) _ _ c.in_err-ensure.ensures in
+    write_refused _ _ _ _ _ _ c.from_residual-in_err-ensure.ensures.1 (rw (accepts (goal.at.returns-in_err-ensure c).In_ok-judge, b.0) b.1)
+
+pub returns-in_err-ensure-2 : goal.returns-in_err-ensure-2
+unfolding write_refusal save_refusal
+returns-in_err-ensure-2 c =
+    let b = broken c.state_sound.ensures _ _ c.in_err-ensure-2.ensures in
+    write_refused _ _ _ _ _ _ c.from_residual-in_err-ensure-2.ensures.1
+    (rw (accepts (goal.at.returns-in_err-ensure-2 c).In_ok-judge, fits (goal.at.returns-in_err-ensure-2 c).In_ok-ensure, b.0) b.1)
+
+pub returns-in_err-ensure-3 : goal.returns-in_err-ensure-3
+unfolding write_refusal
+returns-in_err-ensure-3 c =
+    let b = broken (as_room (size (goal.at.returns-in_err-ensure-3 c).After-masses_of) (length c.args.bytes.now)) _ _ c.in_err-ensure-3.ensures in
+    write_refused _ _ _ _ _ _ c.from_residual-in_err-ensure-3.ensures.1 (rw (may (goal.at.returns-in_err-ensure-3 c).In_ok-ensure-2, b.0) b.1)
 
 pub returns : goal.returns
-unfolding saved bytes_after
+unfolding write_refusal record_offset form_size
 returns c =
-    let a = c.args in
-    let good = write_put a.p a.s a.words.now a.bytes.now _ c.save_refusal-refusal.ensures c.if-refusal-ne0.false in
-    rw good c.put_form.ensures
+    let room = room (goal.at.returns c).In_ok-ensure-3 in
+    write_none _ _ _ _ (rw (may (goal.at.returns c).In_ok-ensure-2, le?_complete _ _ room)) _ (size (goal.at.returns c).After-masses_of) _
+    (form_put _ _ _ _ _ _ c.write_masses.ensures c.write_front.ensures (omega (arith, room)))
