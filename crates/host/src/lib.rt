@@ -12,18 +12,14 @@ ghost use Rattle.plan.specs.Plan.{plan_refusal};
 ghost use Rattle.bucket_test.specs.Draw.{drawn_of, begun, drawn, report};
 ghost use Rattle.stored_plan.specs.Reading.{decoded};
 ghost use Rattle.stored_plan.specs.Writing.{written, bytes_after};
-ghost use Rattle.saved_test.specs.Reading.{loaded, words_after};
 ghost use Rattle.saved_test.specs.Writing.{saved, bytes_after as saveBytes};
 ghost use Rattle.host.specs.Plans.{plan_in, plan_out};
-ghost use Rattle.host.specs.States.{state_in, drawn_out, loaded_out, report_out};
+ghost use Rattle.host.specs.States.{state_in, drawn_out, report_out};
 
 use bucket_test::drawing::{begin, draw, report_on};
 use plan::rules::plan_refusal;
 use plan::{BUCKET_LIMIT, COUNT_LIMIT, POINT_LIMIT};
-use plans::{plan_in, plan_out};
-use saved_test::reading::read_test;
 use saved_test::writing::write_test;
-use states::{drawn_out, loaded_out, report_out, state_in};
 use stored_plan::reading::read_plan;
 use stored_plan::writing::write_plan;
 
@@ -114,35 +110,34 @@ pub struct HostRun {
 pub fn host_plan_refusal(p: HostPlan) -> u32
     ensures { result ≡ plan_refusal (plan_in p) }
 {
-    plan_refusal(plan_in(p))
+    plan_refusal(p.into())
 }
 
 pub fn host_begin(p: HostPlan, words: &mut [u64]) -> HostState
     ensures { (result ≡ drawn_out (drawn_of (begun (plan_in p) words.old)))
         × (words.new ≡ (begun (plan_in p) words.old).words) }
 {
-    drawn_out(begin(plan_in(p), words))
+    begin(p.into(), words).into()
 }
 
 pub fn host_draw(p: HostPlan, s: HostState, words: &mut [u64], d: u8) -> HostState
     ensures { (result ≡ drawn_out (drawn_of (drawn (plan_in p) (state_in s) words.old d)))
         × (words.new ≡ (drawn (plan_in p) (state_in s) words.old d).words) }
 {
-    drawn_out(draw(plan_in(p), state_in(s), words, d))
+    draw(p.into(), s.into(), words, d).into()
 }
 
 pub fn host_report_on(p: HostPlan, s: HostState) -> HostReport
     ensures { result ≡ report_out (report (plan_in p) (state_in s)) }
 {
-    report_out(report_on(plan_in(p), state_in(s)))
+    report_on(p.into(), s.into()).into()
 }
 
 pub fn host_read_plan(bytes: &[u8]) -> HostPlan
     ensures { result ≡ plan_out (decoded bytes.now).refusal (decoded bytes.now).plan }
 {
     let read = read_plan(bytes);
-    let plan = read.plan;
-    plan_out(read.refusal, plan)
+    HostPlan::with_refusal(read.refusal, read.plan)
 }
 
 pub fn host_write_plan(p: HostPlan, bytes: &mut [u8]) -> HostWritten
@@ -150,18 +145,11 @@ pub fn host_write_plan(p: HostPlan, bytes: &mut [u8]) -> HostWritten
         × (result.size ≡ (written (plan_in p) bytes.old).size)
         × (bytes.new ≡ bytes_after (plan_in p) bytes.old) }
 {
-    let written = write_plan(plan_in(p), bytes);
+    let written = write_plan(p.into(), bytes);
     HostWritten {
         refusal: written.refusal,
         size: written.size,
     }
-}
-
-pub fn host_read_test(p: HostPlan, bytes: &[u8], words: &mut [u64]) -> HostTest
-    ensures { (result ≡ loaded_out (loaded (plan_in p) bytes.now words.old))
-        × (words.new ≡ words_after (plan_in p) bytes.now words.old) }
-{
-    loaded_out(read_test(plan_in(p), bytes, words))
 }
 
 pub fn host_write_test(p: HostPlan, s: HostState, words: &[u64], bytes: &mut [u8]) -> HostWritten
@@ -169,7 +157,7 @@ pub fn host_write_test(p: HostPlan, s: HostState, words: &[u64], bytes: &mut [u8
         × (result.size ≡ (saved (plan_in p) (state_in s) words.now bytes.old).size)
         × (bytes.new ≡ saveBytes (plan_in p) (state_in s) words.now bytes.old) }
 {
-    let saved = write_test(plan_in(p), state_in(s), words, bytes);
+    let saved = write_test(p.into(), s.into(), words, bytes);
     HostWritten {
         refusal: saved.refusal,
         size: saved.size,

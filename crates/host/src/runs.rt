@@ -8,66 +8,56 @@ use crate::HostRun;
 use counting::drawing::{begin, draw};
 use counting::{Answer, Drawn, Run};
 
-fn kind_of(a: Answer) -> u32
-    ensures { result ≡ kind_of a }
+// C has an answer as three numbers: its case, and what the case holds.
+fn answer_out(a: Answer) -> (u32, u32, u32)
+    ensures { (result.0 ≡ kind_of a) × (result.1 ≡ first_of a) × (result.2 ≡ second_of a) }
 {
     match a {
-        Answer::Open => 0,
-        Answer::Ended(_, _) => 1,
-        Answer::Refused(_) => 2,
+        Answer::Open => (0, 0, 0),
+        Answer::Ended(numerator, denominator) => (1, numerator, denominator),
+        Answer::Refused(refusal) => (2, refusal, 0),
     }
 }
 
-fn first_of(a: Answer) -> u32
-    ensures { result ≡ first_of a }
-{
-    match a {
-        Answer::Open => 0,
-        Answer::Ended(numerator, _) => numerator,
-        Answer::Refused(refusal) => refusal,
+impl From<HostRun> for Run {
+    ghost from_gives = { λ h r. r ≡ run_in h };
+
+    fn from(h: HostRun) -> Run {
+        Run {
+            stop: h.stop,
+            size: h.size,
+            taken: h.taken,
+            ones: h.ones,
+        }
     }
 }
 
-fn second_of(a: Answer) -> u32
-    ensures { result ≡ second_of a }
-{
-    match a {
-        Answer::Open => 0,
-        Answer::Ended(_, denominator) => denominator,
-        Answer::Refused(_) => 0,
-    }
-}
+impl From<Drawn> for HostRun {
+    ghost from_gives = { λ d h. h ≡ run_out d };
 
-fn run_out(o: Drawn) -> HostRun
-    ensures { result ≡ run_out o }
-{
-    let answer = o.answer;
-    let run = o.run;
-    HostRun {
-        answer: kind_of(answer),
-        first: first_of(answer),
-        second: second_of(answer),
-        stop: run.stop,
-        size: run.size,
-        taken: run.taken,
-        ones: run.ones,
+    fn from(d: Drawn) -> HostRun {
+        let (answer, first, second) = answer_out(d.answer);
+        let run = d.run;
+        HostRun {
+            answer,
+            first,
+            second,
+            stop: run.stop,
+            size: run.size,
+            taken: run.taken,
+            ones: run.ones,
+        }
     }
 }
 
 pub fn host_count_begin(h: u32, n: u32) -> HostRun
     ensures { result ≡ run_out (begun h n) }
 {
-    run_out(begin(h, n))
+    begin(h, n).into()
 }
 
 pub fn host_count_draw(r: HostRun, d: u8) -> HostRun
     ensures { result ≡ run_out (drawn (run_in r) d) }
 {
-    let run = Run {
-        stop: r.stop,
-        size: r.size,
-        taken: r.taken,
-        ones: r.ones,
-    };
-    run_out(draw(run, d))
+    draw(r.into(), d).into()
 }

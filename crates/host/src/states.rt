@@ -1,14 +1,14 @@
 // A state and an answer as they come in and as they go out.
 
 ghost use Rattle.std.specs.Prelude.{◌≡◌, map};
-ghost use Rattle.host.specs.States.{mark_in, mark_case, mark_step, answer_case, answer_number, record_in, record_out, state_in, drawn_out, loaded_out, report_out};
+ghost use Rattle.host.specs.States.{mark_in, mark_case, mark_step, answer_case, answer_number, record_in, record_out, state_in, drawn_out, report_out};
 
-use crate::{HostRecord, HostReport, HostState, HostTest};
+use crate::{HostRecord, HostReport, HostState};
 use bucket_test::{Answer, Drawn, Report, State, Threshold};
 use plan::COUNT_LIMIT;
-use saved_test::Loaded;
 use walk::{Mark, Walked};
 
+// C has a mark, and an answer, as two numbers: its case, and what the case holds.
 fn mark_in(mark: u32, step: u32) -> Mark
     ensures { result ≡ mark_in mark step }
 {
@@ -19,152 +19,114 @@ fn mark_in(mark: u32, step: u32) -> Mark
     }
 }
 
-fn mark_case(m: Mark) -> u32
-    ensures { result ≡ mark_case m }
+fn mark_out(m: Mark) -> (u32, u32)
+    ensures { (result.0 ≡ mark_case m) × (result.1 ≡ mark_step m) }
 {
     match m {
-        Mark::Open => 0,
-        Mark::Above(_) => 1,
-        Mark::AtMost(_) => 2,
+        Mark::Open => (0, 0),
+        Mark::Above(step) => (1, step),
+        Mark::AtMost(step) => (2, step),
     }
 }
 
-fn mark_step(m: Mark) -> u32
-    ensures { result ≡ mark_step m }
-{
-    match m {
-        Mark::Open => 0,
-        Mark::Above(t) => t,
-        Mark::AtMost(t) => t,
-    }
-}
-
-fn answer_case(a: Answer) -> u32
-    ensures { result ≡ answer_case a }
+fn answer_out(a: Answer) -> (u32, u32)
+    ensures { (result.0 ≡ answer_case a) × (result.1 ≡ answer_number a) }
 {
     match a {
-        Answer::Open => 0,
-        Answer::Decided(_) => 1,
-        Answer::Crossed => 2,
-        Answer::Wide => 3,
-        Answer::Spent => 4,
-        Answer::Refused(_) => 5,
+        Answer::Open => (0, 0),
+        Answer::Decided(bucket) => (1, bucket),
+        Answer::Crossed => (2, 0),
+        Answer::Wide => (3, 0),
+        Answer::Spent => (4, 0),
+        Answer::Refused(refusal) => (5, refusal),
     }
 }
 
-fn answer_number(a: Answer) -> u32
-    ensures { result ≡ answer_number a }
-{
-    match a {
-        Answer::Open => 0,
-        Answer::Decided(bucket) => bucket,
-        Answer::Crossed => 0,
-        Answer::Wide => 0,
-        Answer::Spent => 0,
-        Answer::Refused(refusal) => refusal,
+impl From<HostRecord> for Threshold {
+    ghost from_gives = { λ r t. t ≡ record_in r };
+
+    fn from(r: HostRecord) -> Threshold {
+        Threshold {
+            mark: mark_in(r.mark, r.step),
+            walked: Walked {
+                lower: r.lower,
+                upper: r.upper,
+                over: r.over,
+                under: r.under,
+                rounded: r.rounded,
+            },
+        }
     }
 }
 
-fn record_in(r: HostRecord) -> Threshold
-    ensures { result ≡ record_in r }
-{
-    let mark = mark_in(r.mark, r.step);
-    let walked = Walked {
-        lower: r.lower,
-        upper: r.upper,
-        over: r.over,
-        under: r.under,
-        rounded: r.rounded,
-    };
-    Threshold { mark, walked }
-}
+impl From<Threshold> for HostRecord {
+    ghost from_gives = { λ t r. r ≡ record_out t };
 
-fn record_out(t: Threshold) -> HostRecord
-    ensures { result ≡ record_out t }
-{
-    let mark = t.mark;
-    let w = t.walked;
-    HostRecord {
-        mark: mark_case(mark),
-        step: mark_step(mark),
-        lower: w.lower,
-        upper: w.upper,
-        over: w.over,
-        under: w.under,
-        rounded: w.rounded,
+    fn from(t: Threshold) -> HostRecord {
+        let w = t.walked;
+        let (mark, step) = mark_out(t.mark);
+        HostRecord {
+            mark,
+            step,
+            lower: w.lower,
+            upper: w.upper,
+            over: w.over,
+            under: w.under,
+            rounded: w.rounded,
+        }
     }
 }
 
 fn records_in(rs: [HostRecord; COUNT_LIMIT]) -> [Threshold; COUNT_LIMIT]
     ensures { result ≡ map record_in rs }
 {
-    let mut records = [record_in(rs[0]); COUNT_LIMIT];
-    for i in 0..COUNT_LIMIT {
-        records[i] = record_in(rs[i]);
-    }
-    records
+    rs.map(Threshold::from)
 }
 
 fn records_out(ts: [Threshold; COUNT_LIMIT]) -> [HostRecord; COUNT_LIMIT]
     ensures { result ≡ map record_out ts }
 {
-    let mut records = [record_out(ts[0]); COUNT_LIMIT];
-    for i in 0..COUNT_LIMIT {
-        records[i] = record_out(ts[i]);
-    }
-    records
+    ts.map(HostRecord::from)
 }
 
-pub(crate) fn state_in(s: HostState) -> State
-    ensures { result ≡ state_in s }
-{
-    let held = s.records;
-    let records = records_in(held);
-    State {
-        n: s.n,
-        ones: s.ones,
-        records,
+impl From<HostState> for State {
+    ghost from_gives = { λ h s. s ≡ state_in h };
+
+    fn from(h: HostState) -> State {
+        State {
+            n: h.n,
+            ones: h.ones,
+            records: records_in(h.records),
+        }
     }
 }
 
-pub(crate) fn drawn_out(d: Drawn) -> HostState
-    ensures { result ≡ drawn_out d }
-{
-    let answer = d.answer;
-    let s = d.state;
-    let held = s.records;
-    let records = records_out(held);
-    HostState {
-        answer: answer_case(answer),
-        number: answer_number(answer),
-        n: s.n,
-        ones: s.ones,
-        records,
+impl From<Drawn> for HostState {
+    ghost from_gives = { λ d h. h ≡ drawn_out d };
+
+    fn from(d: Drawn) -> HostState {
+        let (answer, number) = answer_out(d.answer);
+        let s = d.state;
+        HostState {
+            answer,
+            number,
+            n: s.n,
+            ones: s.ones,
+            records: records_out(s.records),
+        }
     }
 }
 
-pub(crate) fn loaded_out(l: Loaded) -> HostTest
-    ensures { result ≡ loaded_out l }
-{
-    let s = l.state;
-    let held = s.records;
-    let records = records_out(held);
-    HostTest {
-        refusal: l.refusal,
-        n: s.n,
-        ones: s.ones,
-        records,
-    }
-}
+impl From<Report> for HostReport {
+    ghost from_gives = { λ r h. h ≡ report_out r };
 
-pub(crate) fn report_out(r: Report) -> HostReport
-    ensures { result ≡ report_out r }
-{
-    let answer = r.answer;
-    HostReport {
-        answer: answer_case(answer),
-        number: answer_number(answer),
-        low: r.low,
-        high: r.high,
+    fn from(r: Report) -> HostReport {
+        let (answer, number) = answer_out(r.answer);
+        HostReport {
+            answer,
+            number,
+            low: r.low,
+            high: r.high,
+        }
     }
 }

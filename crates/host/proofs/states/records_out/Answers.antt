@@ -1,13 +1,13 @@
--- A loop that copies.
-use Rattle.host.proofs.Copies.{copied_none, copied_more, copied_all}
-use borrow.Author.Rules.{rules}
+-- An array whose elements are turned one by one.
+use Rattle.std.proofs.Common.{rules, ◌≡◌}
+use Prim.Native.Nat.{ℕ, ◌<◌}
+use native.Mathlib.Omega.{arith}
+use lib.ListN.{length, get_or}
+use Rattle.host.specs.States.{record_out}
+use Rattle.host.proofs.Copies.{mapped}
 use Rattle.host.proofs.states.records_out.Goals as goal
 
-pub loop-i-init : goal.loop-i-init
-loop-i-init c = copied_none
-
-pub loop-i-preserved : goal.loop-i-preserved
-loop-i-preserved c = copied_more _ c.loop-i.invariant (search rules) (search rules) (search rules) c.record_out.ensures
-
 pub returns : goal.returns
-returns c = copied_all c.loop-i.invariant (search rules) (search rules) (search rules)
+returns c =
+    let m = c.map.ensures.items in
+    mapped record_out _ _ (search rules) (λ i d e l. let z = (m.at i d e (search (rules, l))).2.met in search (rules, z))
