@@ -26,14 +26,12 @@ pub(crate) fn to_draws(chunk: &mut [u8]) -> usize
         × (chunk.new ≡ draws_of chunk.old ++ drop result chunk.old) }
 {
     let mut at = 0;
-    let mut i = 0;
-    while i < chunk.len() {
+    for i in 0..chunk.len() {
         let c = chunk[i];
         if c != NEWLINE {
             chunk[at] = draw_of(c);
             at += 1;
         }
-        i += 1;
     }
     at
 }

@@ -19,11 +19,7 @@ fn put(out: &mut [u8], at: usize, bytes: &[u8]) -> usize
     requires { at + length bytes.now ≤ length out.old }
     ensures { Puts bytes.now at result out.old out.new }
 {
-    let mut i = 0;
-    while i < bytes.len() {
-        out[at + i] = bytes[i];
-        i += 1;
-    }
+    out[at..at + bytes.len()].copy_from_slice(bytes);
     at + bytes.len()
 }
 
@@ -38,20 +34,16 @@ fn put_number(out: &mut [u8], at: usize, number: u32) -> usize
     put(out, next, &text[..k])
 }
 
-// A word: the bytes, and how many of them it has.
-#[derive(Clone, Copy)]
-struct Word([u8; 7], usize);
-
-fn word_of(a: Answer) -> Word
-    ensures { IsPrefixLen result.1 result.0 × (result.1 ≤ 7) × (take result.1 result.0 ≡ word_of a) }
+fn word_of(a: Answer) -> &'static [u8]
+    ensures { (result.now ≡ word_of a) × (length result.now ≤ 7) }
 {
     match a {
-        Answer::Open => Word(*b"open   ", 4),
-        Answer::Decided(_) => Word(*b"decided", 7),
-        Answer::Crossed => Word(*b"crossed", 7),
-        Answer::Wide => Word(*b"wide   ", 4),
-        Answer::Spent => Word(*b"spent  ", 5),
-        Answer::Refused(_) => Word(*b"refused", 7),
+        Answer::Open => b"open",
+        Answer::Decided(_) => b"decided",
+        Answer::Crossed => b"crossed",
+        Answer::Wide => b"wide",
+        Answer::Spent => b"spent",
+        Answer::Refused(_) => b"refused",
     }
 }
 
@@ -60,10 +52,7 @@ fn put_word(out: &mut [u8], a: Answer) -> usize
     requires { 7 ≤ length out.old }
     ensures { (result ≤ 7) × Puts (word_of a) 0 result out.old out.new }
 {
-    let word = word_of(a);
-    let bytes = word.0;
-    let size = word.1;
-    put(out, 0, &bytes[..size])
+    put(out, 0, word_of(a))
 }
 
 // The number of the bucket, 0 unless decided.
@@ -71,12 +60,8 @@ fn bucket_of(a: Answer) -> u32
     ensures { result ≡ bucket_of a }
 {
     match a {
-        Answer::Open => 0,
         Answer::Decided(bucket) => bucket,
-        Answer::Crossed => 0,
-        Answer::Wide => 0,
-        Answer::Spent => 0,
-        Answer::Refused(_) => 0,
+        _ => 0,
     }
 }
 
@@ -115,11 +100,11 @@ pub fn last_line(p: Plan, d: Drawn, out: &mut [u8; LINE_BUFFER]) -> usize
     ensures prefix_len { IsPrefixLen result out.new }
     ensures upper_bound { (result ≤ 64) × Puts (line_after p d) 0 result out.old out.new }
 {
-    let s = d.state;
-    let v = report_on(p, s);
-    let answer = d.answer;
-    let low = v.low;
-    let high = v.high;
-    let r = Report { answer, low, high };
-    line_of(s, r, out)
+    let v = report_on(p, d.state);
+    let r = Report {
+        answer: d.answer,
+        low: v.low,
+        high: v.high,
+    };
+    line_of(d.state, r, out)
 }

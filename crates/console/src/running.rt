@@ -12,14 +12,7 @@ use plan::Plan;
 pub(crate) fn answer_open(a: Answer) -> bool
     ensures { result ≡ answer_open a }
 {
-    match a {
-        Answer::Open => true,
-        Answer::Decided(_) => false,
-        Answer::Crossed => false,
-        Answer::Wide => false,
-        Answer::Spent => false,
-        Answer::Refused(_) => false,
-    }
+    matches!(a, Answer::Open)
 }
 
 // A run of draws after a call's outcome: each while the answer is `open`. Of any plan, outcome, words and draws. It is no entry: draws before
@@ -28,15 +21,11 @@ pub(crate) fn run(p: Plan, d: Drawn, words: &mut [u64], draws: &[u8]) -> Drawn
     ensures { outcome_of result words.new ≡ ran p (outcome_of d words.old) draws.now }
 {
     let mut drawn = d;
-    let mut i = 0;
-    while i < draws.len() {
-        let answer = drawn.answer;
-        if !answer_open(answer) {
+    for &bit in draws {
+        if !answer_open(drawn.answer) {
             return drawn;
         }
-        let state = drawn.state;
-        drawn = draw(p, state, words, draws[i]);
-        i += 1;
+        drawn = draw(p, drawn.state, words, bit);
     }
     drawn
 }

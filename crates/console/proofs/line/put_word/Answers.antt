@@ -4,6 +4,6 @@ use Rattle.console.proofs.line.put_word.Goals as goal
 
 pub returns : goal.returns
 returns c =
-    let w = c.word_of-word.ensures in
+    let w = c.word_of.ensures in
     let p = c.put.ensures in
-    (omega (arith, w.0.1, w.1, p.behind), rw w.2 at p)
+    (omega (arith, w.1, p.behind), rw w.0 at p)

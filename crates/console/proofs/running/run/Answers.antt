@@ -5,21 +5,21 @@ use Rattle.console.proofs.Runs.{run_end, run_ended, run_on}
 use borrow.Author.Rules.{rules}
 use Rattle.console.proofs.running.run.Goals as goal
 
-pub loop-i-init : goal.loop-i-init
-loop-i-init c = (omega arith, refl, refl)
+pub loop-bit-init : goal.loop-bit-init
+loop-bit-init c = (omega arith, refl, refl)
 
 pub returns-then-not-answer_open : goal.returns-then-not-answer_open
 returns-then-not-answer_open c =
-    run_ended _ _ _ c.args.draws.now c.loop-i.i _ c.loop-i.invariant.2 (sym c.answer_open.ensures ∙ c.if-not-answer_open.true)
+    run_ended _ _ _ c.args.draws.now c.loop-bit.bit-index _ c.loop-bit.invariant.2 (sym c.answer_open.ensures ∙ c.if-not-answer_open.true)
 
-pub loop-i-preserved : goal.loop-i-preserved
-loop-i-preserved c =
+pub loop-bit-preserved : goal.loop-bit-preserved
+loop-bit-preserved c =
     let e = c.draw-drawn.ensures in (
       omega arith,
       search rules,
-      run_on _ _ _ _ _ _ c.loop-i.invariant.2 c.loop-i-test.true
+      run_on _ _ _ _ _ _ c.loop-bit.invariant.2 c.loop-bit-test.true
           (sym c.answer_open.ensures ∙ c.if-not-answer_open.false) _ _ e.0 e.1,
     )
 
 pub returns : goal.returns
-returns c = run_end _ _ _ _ _ _ c.loop-i.invariant.2 c.loop-i-test.false
+returns c = run_end _ _ _ _ _ _ c.loop-bit.invariant.2 c.loop-bit-test.false
