@@ -9,8 +9,7 @@ use Rattle.walk.proofs.Tests.{le?_complete, le?_fails}
 use Rattle.bucket_test.specs.Draw.{Outcome, drawn_of, outcome_of, begun}
 use Rattle.plan.specs.declared.Plan.{Plan}
 use Rattle.bucket_test.specs.declared.Drawn.{Drawn}
-use Rattle.stored_plan.specs.Reading.{decoded}
-use Rattle.stored_plan.specs.declared.Read.{Read}
+use Rattle.stored_plan.specs.Reading.{Read, decoded}
 use Rattle.console.specs.Run.{ran}
 use Rattle.console.specs.Input.{draws_of}
 use Rattle.console.specs.Line.{refused_line, line_after, Puts}

@@ -11,8 +11,8 @@ use bucket_test::Drawn;
 use plan::Plan;
 
 // The characters of a chunk, fed to the test after a call's outcome: each draw while the answer is `open`. Draws stand in their place then.
-pub(crate) fn feed(p: Plan, d: Drawn, words: &mut [u64], chunk: &mut [u8]) -> Drawn
-    ensures { (outcome_of result words.new ≡ ran p (outcome_of d words.old) (draws_of chunk.old))
+pub(crate) fn feed(p: &Plan, d: Drawn, words: &mut [u64], chunk: &mut [u8]) -> Drawn
+    ensures { (outcome_of result words.new ≡ ran p.now (outcome_of d words.old) (draws_of chunk.old))
         × (chunk.new ≡ draws_of chunk.old ++ drop (length (draws_of chunk.old)) chunk.old) }
 {
     let m = to_draws(chunk);

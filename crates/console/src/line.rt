@@ -96,11 +96,11 @@ pub(crate) fn line_of(s: State, r: Report, out: &mut [u8; LINE_BUFFER]) -> usize
 }
 
 // The line of an outcome: its answer, and n, S and interval of its state.
-pub fn last_line(p: Plan, d: Drawn, out: &mut [u8; LINE_BUFFER]) -> usize
+pub fn last_line(p: &Plan, d: Drawn, out: &mut [u8; LINE_BUFFER]) -> usize
     ensures prefix_len { IsPrefixLen result out.new }
-    ensures upper_bound { (result ≤ 64) × Puts (line_after p d) 0 result out.old out.new }
+    ensures upper_bound { (result ≤ 64) × Puts (line_after p.now d) 0 result out.old out.new }
 {
-    let v = report_on(p, d.state);
+    let v = report_on(p, &d.state);
     let r = Report {
         answer: d.answer,
         low: v.low,

@@ -16,6 +16,7 @@ use crate::running::answer_open;
 use bucket_test::Drawn;
 use bucket_test::drawing::begin;
 use plan::Plan;
+use refusals::Refusal;
 use std::fs;
 use std::io::Read;
 use std::rt::Files;
@@ -31,8 +32,8 @@ struct Fed {
 }
 
 // The characters that one read gave. More is taken after an `open` answer, and not where there were none: the input has ended.
-fn take_chunk(p: Plan, d: Drawn, words: &mut [u64], chunk: &mut [u8]) -> Fed
-    ensures { (outcome_of result.drawn words.new ≡ ran p (outcome_of d words.old) (draws_of chunk.old))
+fn take_chunk(p: &Plan, d: Drawn, words: &mut [u64], chunk: &mut [u8]) -> Fed
+    ensures { (outcome_of result.drawn words.new ≡ ran p.now (outcome_of d words.old) (draws_of chunk.old))
         × (result.more ≡ lt? 0 (length chunk.old) && answer_open result.drawn.answer) }
 {
     let some = chunk.len() > 0;
@@ -43,8 +44,8 @@ fn take_chunk(p: Plan, d: Drawn, words: &mut [u64], chunk: &mut [u8]) -> Fed
 }
 
 // One read, and the characters that it gave.
-fn take_some<R: Read>(p: Plan, d: Drawn, input: &mut R, words: &mut [u64]) -> Fed
-    ensures { (t : ComesTo p (outcome_of d words.old) result.drawn words.new)
+fn take_some<R: Read>(p: &Plan, d: Drawn, input: &mut R, words: &mut [u64]) -> Fed
+    ensures { (t : ComesTo p.now (outcome_of d words.old) result.drawn words.new)
         × Consumes (R.remaining input.old) (R.remaining input.new) t.text }
 {
     let mut chunk = [0u8; 4096];
@@ -54,8 +55,8 @@ fn take_some<R: Read>(p: Plan, d: Drawn, input: &mut R, words: &mut [u64]) -> Fe
 
 // Reads up to an answer that is not `open`, or the end of input. A proved loop has to end: it counts its turns down, from a number that no
 // run uses up.
-fn take_all<R: Read>(p: Plan, d: Drawn, input: &mut R, words: &mut [u64]) -> Drawn
-    ensures { (t : ComesTo p (outcome_of d words.old) result words.new)
+fn take_all<R: Read>(p: &Plan, d: Drawn, input: &mut R, words: &mut [u64]) -> Drawn
+    ensures { (t : ComesTo p.now (outcome_of d words.old) result words.new)
         × Consumes (R.remaining input.old) (R.remaining input.new) t.text }
 {
     let first = d.answer;
@@ -73,10 +74,10 @@ fn take_all<R: Read>(p: Plan, d: Drawn, input: &mut R, words: &mut [u64]) -> Dra
 }
 
 // A test of an accepted plan on the words lent to it, from its beginning to its line.
-fn play<R: Read>(p: Plan, input: &mut R, words: &mut [u64], out: &mut [u8; LINE_BUFFER]) -> usize
+fn play<R: Read>(p: &Plan, input: &mut R, words: &mut [u64], out: &mut [u8; LINE_BUFFER]) -> usize
     ensures prefix_len { IsPrefixLen result out.new }
-    ensures prints { Prints (played p words.old) result words.new out.old out.new }
-    ensures given { (r : Prints (played p words.old) result words.new out.old out.new)
+    ensures prints { Prints (played p.now words.old) result words.new out.old out.new }
+    ensures given { (r : Prints (played p.now words.old) result words.new out.old out.new)
         × Consumes (R.remaining input.old) (R.remaining input.new) r.text }
 {
     let begun = begin(p, words);
@@ -97,16 +98,15 @@ pub fn serve<R: Read>(
     ensures given { (r : Prints (served stored.now words.old) result words.new out.old out.new)
         × Consumes (R.remaining input.old) (R.remaining input.new) r.text }
 {
-    let got = read_plan(stored);
-    if got.refusal > 0 {
-        return refused_line(got.refusal, out);
-    }
-    let p = got.plan;
-    let m = WIDE * (p.count as usize);
+    let p = match read_plan(stored) {
+        Ok(p) => p,
+        Err(refusal) => return refused_line(refusal.number(), out),
+    };
+    let m = WIDE * p.count as usize;
     if words.len() < m {
-        return refused_line(8, out);
+        return refused_line(Refusal::Words.number(), out);
     }
-    play(p, input, &mut words[0..m], out)
+    play(&p, input, &mut words[..m], out)
 }
 
 // A buffer for the plan's file: one byte more than the longest plan has is enough to tell a longer file (stored_plan/specs/RoundTrip,

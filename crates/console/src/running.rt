@@ -17,8 +17,8 @@ pub(crate) fn answer_open(a: Answer) -> bool
 
 // A run of draws after a call's outcome: each while the answer is `open`. Of any plan, outcome, words and draws. It is no entry: draws before
 // a refused one were taken.
-pub(crate) fn run(p: Plan, d: Drawn, words: &mut [u64], draws: &[u8]) -> Drawn
-    ensures { outcome_of result words.new ≡ ran p (outcome_of d words.old) draws.now }
+pub(crate) fn run(p: &Plan, d: Drawn, words: &mut [u64], draws: &[u8]) -> Drawn
+    ensures { outcome_of result words.new ≡ ran p.now (outcome_of d words.old) draws.now }
 {
     let mut drawn = d;
     for &bit in draws {

@@ -2,11 +2,9 @@
 
 #![tactic(auto)]
 
-use bucket_test::Drawn;
 use bucket_test::drawing::{begin, draw};
 use console::line::{LINE_BUFFER, last_line};
 use console::program::{PLAN_BUFFER, load, serve};
-use plan::Plan;
 use std::fs;
 use std::rt::Files;
 use stored_plan::reading::read_plan;
@@ -30,28 +28,21 @@ fn trial<R: Files + Print>(rt: &R, plan: &[u8], input: &[u8], words: &mut [u64])
     print(rt, &line[..n])
 }
 
-// One draw more after a call's outcome, whatever its answer.
-fn after(p: Plan, d: Drawn, words: &mut [u64], bit: u8) -> Drawn {
-    let state = d.state;
-    draw(p, state, words, bit)
-}
-
-// One draw more to plan F, which five ones have ended: no program hands one over.
+// A draw to plan F after five ones, which have ended its test: no program hands one over.
 fn after_the_end<R: Files + Print>(rt: &R, d: u8) {
     let mut bytes = [0u8; PLAN_BUFFER];
     let n = load(rt, b"f.plan", &mut bytes);
-    let got = read_plan(&bytes[..n]);
-    let p = got.plan;
+    let Ok(p) = read_plan(&bytes[..n]) else {
+        // No plan: the test of a plan without thresholds is refused by 1.
+        return print(rt, b"refused 1\n");
+    };
     let mut words = [0u64; WIDE];
-    let begun = begin(p, &mut words);
-    let one = after(p, begun, &mut words, 1);
-    let two = after(p, one, &mut words, 1);
-    let three = after(p, two, &mut words, 1);
-    let four = after(p, three, &mut words, 1);
-    let ended = after(p, four, &mut words, 1);
-    let again = after(p, ended, &mut words, d);
+    let mut drawn = begin(&p, &mut words);
+    for bit in [1, 1, 1, 1, 1, d] {
+        drawn = draw(&p, drawn.state, &mut words, bit);
+    }
     let mut out = [0u8; LINE_BUFFER];
-    let len = last_line(p, again, &mut out);
+    let len = last_line(&p, drawn, &mut out);
     print(rt, &out[..len])
 }
 
