@@ -11,7 +11,7 @@ use Rattle.bucket_test.specs.declared.Drawn.{Drawn}
 use Rattle.bucket_test.specs.declared.Report.{Report}
 use Rattle.host.specs.declared.HostRecord.{HostRecord}
 use Rattle.host.specs.declared.HostState.{HostState}
-use Rattle.saved_test.specs.declared.Loaded.{Loaded}
+use Rattle.saved_test.specs.Reading.{Loaded}
 use Rattle.host.specs.declared.HostTest.{HostTest}
 use Rattle.host.specs.declared.HostReport.{HostReport}
 

@@ -6,22 +6,25 @@
 mod plans;
 pub mod runs;
 mod states;
+mod writings;
 
 ghost use Rattle.std.specs.Prelude.{◌≡◌};
 ghost use Rattle.plan.specs.Plan.{plan_refusal};
 ghost use Rattle.bucket_test.specs.Draw.{drawn_of, begun, drawn, report};
 ghost use Rattle.stored_plan.specs.Reading.{decoded};
 ghost use Rattle.stored_plan.specs.Writing.{written, bytes_after};
+ghost use Rattle.saved_test.specs.Reading.{loaded, words_after};
 ghost use Rattle.saved_test.specs.Writing.{saved, bytes_after as saveBytes};
 ghost use Rattle.host.specs.Plans.{plan_in, plan_out};
-ghost use Rattle.host.specs.States.{state_in, drawn_out, report_out};
+ghost use Rattle.host.specs.States.{state_in, drawn_out, loaded_out, report_out};
 
 use bucket_test::drawing::{begin, draw, report_on};
-use plan::rules::plan_refusal;
-use plan::{BUCKET_LIMIT, COUNT_LIMIT, POINT_LIMIT};
+use plan::{BUCKET_LIMIT, COUNT_LIMIT, POINT_LIMIT, Plan};
+use saved_test::reading::read_test;
 use saved_test::writing::write_test;
 use stored_plan::reading::read_plan;
 use stored_plan::writing::write_plan;
+use writings::refusal_of;
 
 // A plan, with the number of its refusal where one was asked for.
 #[repr(C)]
@@ -110,34 +113,33 @@ pub struct HostRun {
 pub fn host_plan_refusal(p: HostPlan) -> u32
     ensures { result ≡ plan_refusal (plan_in p) }
 {
-    plan_refusal(p.into())
+    refusal_of(Plan::from(p).judge())
 }
 
 pub fn host_begin(p: HostPlan, words: &mut [u64]) -> HostState
     ensures { (result ≡ drawn_out (drawn_of (begun (plan_in p) words.old)))
         × (words.new ≡ (begun (plan_in p) words.old).words) }
 {
-    begin(p.into(), words).into()
+    begin(&p.into(), words).into()
 }
 
 pub fn host_draw(p: HostPlan, s: HostState, words: &mut [u64], d: u8) -> HostState
     ensures { (result ≡ drawn_out (drawn_of (drawn (plan_in p) (state_in s) words.old d)))
         × (words.new ≡ (drawn (plan_in p) (state_in s) words.old d).words) }
 {
-    draw(p.into(), s.into(), words, d).into()
+    draw(&p.into(), s.into(), words, d).into()
 }
 
 pub fn host_report_on(p: HostPlan, s: HostState) -> HostReport
     ensures { result ≡ report_out (report (plan_in p) (state_in s)) }
 {
-    report_on(p.into(), s.into()).into()
+    report_on(&p.into(), &s.into()).into()
 }
 
 pub fn host_read_plan(bytes: &[u8]) -> HostPlan
     ensures { result ≡ plan_out (decoded bytes.now).refusal (decoded bytes.now).plan }
 {
-    let read = read_plan(bytes);
-    HostPlan::with_refusal(read.refusal, read.plan)
+    read_plan(bytes).into()
 }
 
 pub fn host_write_plan(p: HostPlan, bytes: &mut [u8]) -> HostWritten
@@ -145,11 +147,14 @@ pub fn host_write_plan(p: HostPlan, bytes: &mut [u8]) -> HostWritten
         × (result.size ≡ (written (plan_in p) bytes.old).size)
         × (bytes.new ≡ bytes_after (plan_in p) bytes.old) }
 {
-    let written = write_plan(p.into(), bytes);
-    HostWritten {
-        refusal: written.refusal,
-        size: written.size,
-    }
+    write_plan(&p.into(), bytes).into()
+}
+
+pub fn host_read_test(p: HostPlan, bytes: &[u8], words: &mut [u64]) -> HostTest
+    ensures { (result ≡ loaded_out (loaded (plan_in p) bytes.now words.old))
+        × (words.new ≡ words_after (plan_in p) bytes.now words.old) }
+{
+    read_test(&p.into(), bytes, words).into()
 }
 
 pub fn host_write_test(p: HostPlan, s: HostState, words: &[u64], bytes: &mut [u8]) -> HostWritten
@@ -157,9 +162,5 @@ pub fn host_write_test(p: HostPlan, s: HostState, words: &[u64], bytes: &mut [u8
         × (result.size ≡ (saved (plan_in p) (state_in s) words.now bytes.old).size)
         × (bytes.new ≡ saveBytes (plan_in p) (state_in s) words.now bytes.old) }
 {
-    let saved = write_test(p.into(), s.into(), words, bytes);
-    HostWritten {
-        refusal: saved.refusal,
-        size: saved.size,
-    }
+    write_test(&p.into(), &s.into(), words, bytes).into()
 }

@@ -1,11 +1,15 @@
 // A state and an answer as they come in and as they go out.
 
 ghost use Rattle.std.specs.Prelude.{◌≡◌, map};
-ghost use Rattle.host.specs.States.{mark_in, mark_case, mark_step, answer_case, answer_number, record_in, record_out, state_in, drawn_out, report_out};
+ghost use Rattle.saved_test.specs.Reading.{loaded_as};
+ghost use Rattle.host.specs.States.{mark_in, mark_case, mark_step, answer_case, answer_number, record_in, record_out, state_in, drawn_out, loaded_out, report_out};
 
-use crate::{HostRecord, HostReport, HostState};
+use crate::writings::refusal_of;
+use crate::{HostRecord, HostReport, HostState, HostTest};
+use bucket_test::starting::{no_walked, ten_of};
 use bucket_test::{Answer, Drawn, Report, State, Threshold};
 use plan::COUNT_LIMIT;
+use refusals::Refusal;
 use walk::{Mark, Walked};
 
 // C has a mark, and an answer, as two numbers: its case, and what the case holds.
@@ -110,6 +114,21 @@ impl From<Drawn> for HostState {
         HostState {
             answer,
             number,
+            n: s.n,
+            ones: s.ones,
+            records: records_out(s.records),
+        }
+    }
+}
+
+impl From<Result<State, Refusal>> for HostTest {
+    ghost from_gives = { λ r t. t ≡ loaded_out (loaded_as r) };
+
+    fn from(r: Result<State, Refusal>) -> HostTest {
+        let refusal = refusal_of(r);
+        let s = r.unwrap_or(ten_of(no_walked()));
+        HostTest {
+            refusal,
             n: s.n,
             ones: s.ones,
             records: records_out(s.records),

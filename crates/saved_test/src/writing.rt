@@ -117,7 +117,7 @@ pub fn write_test(p: &Plan, s: &State, words: &[u64], bytes: &mut [u8]) -> Resul
     p.judge()?;
     let count = p.count as usize;
     ensure(words.len() == WIDE * count, Refusal::Words)?;
-    ensure(state_sound(*p, *s, words), Refusal::Spoiled)?;
+    ensure(state_sound(p, s, words), Refusal::Spoiled)?;
     let size = HEADER_SIZE + RECORD_SIZE * count + MASS_SIZE * masses_of(s.records, count);
     ensure(size <= bytes.len(), Refusal::Room)?;
     write_masses(bytes, count, s.records, words);
