@@ -1,8 +1,5 @@
 -- An array whose elements are turned one by one.
-use Rattle.std.proofs.Common.{rules, ◌≡◌}
-use Prim.Native.Nat.{ℕ, ◌<◌}
-use native.Mathlib.Omega.{arith}
-use lib.ListN.{length, get_or}
+use Rattle.std.proofs.Common.{rules}
 use Rattle.host.specs.States.{record_in}
 use Rattle.host.proofs.Copies.{mapped}
 use Rattle.host.proofs.states.records_in.Goals as goal
