@@ -1,9 +1,12 @@
 -- What each test of a run says in words, and the ways out of a draw, of any run.
 use mathlib.Core.Path.{◌≡◌, refl}
 use mathlib.Core.Logic.{inl, inr}
-use mathlib.Core.Bool.{Bool, true, false, ◌&&◌, ◌||◌}
-use Prim.Native.Nat.{ℕ, zero, suc, ◌-◌, ◌≤◌, ◌<◌}
+use mathlib.Core.Bool.{Bool, true, false, not, ◌&&◌, ◌||◌}
+use mathlib.Core.List.{[], ◌∷◌}
+use Rattle.refusals.specs.Refusals.{unless, first_refusal}
+use Prim.Native.Nat.{ℕ, zero, suc, ◌+◌, ◌-◌, ◌≤◌, ◌<◌}
 use native.Mathlib.Omega.{arith}
+use Rattle.std.proofs.lemmas.Grind.{common_steps}
 use Rattle.counting.specs.Tests.{le?, lt?, eq?}
 use Rattle.counting.specs.Run.{size_limit, sizes_fit, is_over, is_sound, answer_of, run_of, refused, next_run, drawn}
 use Rattle.counting.specs.OneCall.{InRange, Bit, Over, Spoiled, Answers}
@@ -125,3 +128,39 @@ module _ (r : Run) (d : ℕ) where
         pub drawn_0 : is_sound r ≡ true → drawn r d ≡ record { answer = answer_of (next_run r d); run = next_run r d }
         unfolding drawn
         drawn_0 e = rw (ok, le_holds d 1 h, going, e)
+
+-- ---- what judges a draw, in order
+
+abbrev pub judged : Bool → Bool → Bool → Bool → ℕ
+judged fit small over sound = first_refusal (unless fit 13 ∷ unless small 9 ∷ unless (not over) 10 ∷ unless sound 11 ∷ [])
+
+module _ (r : Run) (d : ℕ) where
+  abbrev judging : ℕ
+  judging = judged (sizes_fit r.stop r.size) (le? d 1) (is_over r) (is_sound r)
+
+  pub drawn_refused : (k : ℕ) → 1 ≤ k → k ≡ judging → drawn r d ≡ refused k r
+  unfolding drawn
+  drawn_refused k some e = grind (arith, common_steps)
+
+  -- a draw that nothing refuses is taken, and one draw more and its ones fit
+  pub record Taken : Type 0 where
+    pub least : 1 ≤ r.size
+    pub draws : r.taken < size_limit
+    pub ones : r.ones + d ≤ size_limit
+    pub is : drawn r d ≡ record { answer = answer_of (next_run r d); run = next_run r d }
+
+  none : (fit small over sound : Bool) → 0 ≡ judged fit small over sound → (fit ≡ true) × (small ≡ true) × (over ≡ false) × (sound ≡ true)
+  none fit small over sound e = grind (arith, common_steps)
+
+  pub taken : 0 ≡ judging → Taken
+  taken e =
+      let t = none (sizes_fit r.stop r.size) (le? d 1) (is_over r) (is_sound r) e in
+      let range = in-range _ _ t.0 in
+      let small = le_says d 1 t.1 in
+      let sound = sound_says r t.3 in
+      record {
+        least = omega (arith, range.below);
+        draws = omega (arith, sound.0, range.at_most);
+        ones = omega (arith, small, sound.1, range.below, range.at_most);
+        is = drawn_0 r d t.0 small t.2 t.3;
+      }

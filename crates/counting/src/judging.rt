@@ -1,57 +1,58 @@
 // What a run is judged by, and its answer (rules 13.2, 13.3).
 
-ghost use Rattle.std.specs.Prelude.{◌≡◌, ◌≤◌};
+ghost use Rattle.std.specs.Prelude.{◌≡◌, ◌≤◌, ◌∷◌, [], not};
+ghost use Rattle.refusals.specs.Refusals.{refusal_in, unless, first_refusal};
+ghost use Rattle.counting.specs.Tests.{le?};
 ghost use Rattle.counting.specs.Run.{size_limit, sizes_fit, is_over, is_sound, answer_of};
 
 use crate::{Answer, Run, SIZE_LIMIT};
+use refusals::{Refusal, ensure};
 
-// Not refused by 13: of any numbers.
-pub(crate) fn sizes_fit(stop: u32, size: u32) -> bool
-    ensures { result ≡ sizes_fit stop size }
-{
-    if stop < 1 {
-        return false;
+impl Run {
+    // Not refused by 13: of any numbers.
+    pub(crate) fn sizes_fit(&self) -> bool
+        ensures { result ≡ sizes_fit self.now.stop self.now.size }
+    {
+        1 <= self.stop && self.stop < self.size && self.size <= SIZE_LIMIT
     }
-    if size <= stop {
-        return false;
-    }
-    size <= SIZE_LIMIT
-}
 
-// Refused by 10. Judged after 13, so that there is a draw n - 1.
-pub(crate) fn is_over(r: Run) -> bool
-    requires { 1 ≤ r.size }
-    ensures { result ≡ is_over r }
-{
-    if r.ones == r.stop {
-        return true;
+    // Refused by 10. Judged after 13, so that there is a draw n - 1.
+    fn is_over(&self) -> bool
+        requires { 1 ≤ self.now.size }
+        ensures { result ≡ is_over self.now }
+    {
+        self.ones == self.stop || self.taken == self.size - 1
     }
-    r.taken == r.size - 1
-}
 
-// Not refused by 11: of any run.
-pub(crate) fn is_sound(r: Run) -> bool
-    ensures { result ≡ is_sound r }
-{
-    if r.size <= r.taken {
-        return false;
+    // Not refused by 11: of any run.
+    fn is_sound(&self) -> bool
+        ensures { result ≡ is_sound self.now }
+    {
+        self.taken < self.size && self.ones <= self.stop && self.ones <= self.taken
     }
-    if r.stop < r.ones {
-        return false;
-    }
-    r.ones <= r.taken
-}
 
-// The answer to a run after a draw. Where l = n - 1, one more than the ones must fit.
-pub(crate) fn answer_of(r: Run) -> Answer
-    requires { (1 ≤ r.size) × (r.ones ≤ size_limit) }
-    ensures { result ≡ answer_of r }
-{
-    if r.ones == r.stop {
-        return Answer::Ended(r.stop, r.taken);
+    // Whether a draw may be taken, by 13, 9, 10 and 11 in this order: any run and draw may be handed in.
+    pub(crate) fn judge(&self, d: u8) -> Result<(), Refusal>
+        ensures { refusal_in result ≡ first_refusal (
+            unless (sizes_fit self.now.stop self.now.size) 13 ∷ unless (le? d 1) 9 ∷ unless (not (is_over self.now)) 10 ∷ unless (is_sound self.now) 11 ∷ []) }
+    {
+        ensure(self.sizes_fit(), Refusal::Run)?;
+        ensure(d <= 1, Refusal::Draw)?;
+        ensure(!self.is_over(), Refusal::Ended)?;
+        ensure(self.is_sound(), Refusal::Spoiled)
     }
-    if r.taken == r.size - 1 {
-        return Answer::Ended(r.ones + 1, r.size);
+
+    // The answer to a run after a draw. Where l = n - 1, one more than the ones must fit.
+    pub(crate) fn answer(&self) -> Answer
+        requires { (1 ≤ self.now.size) × (self.now.ones ≤ size_limit) }
+        ensures { result ≡ answer_of self.now }
+    {
+        if self.ones == self.stop {
+            Answer::Ended(self.stop, self.taken)
+        } else if self.taken == self.size - 1 {
+            Answer::Ended(self.ones + 1, self.size)
+        } else {
+            Answer::Open
+        }
     }
-    Answer::Open
 }
