@@ -4,7 +4,7 @@ use mathlib.Core.List.{List, [], ◌∷◌, ◌++◌}
 use Prim.Native.Nat.{ℕ, zero, suc, ◌+◌, ◌*◌, ◌≤◌, ◌<◌}
 use native.Mathlib.Numerals.{add-one}
 use native.Mathlib.Omega.{arith}
-use lib.ListN.{length, take, replicate, set, get_or, length-replicate, length-set}
+use lib.ListN.{length, take, drop, replicate, set, get_or, length-replicate, length-set}
 use Rattle.plan.specs.Places.{over_to}
 use Rattle.plan.proofs.PlaceLists.{over-length, over-get, over_cong, over_put}
 use Rattle.little.specs.Little.{field, column, filled}
@@ -87,3 +87,10 @@ filled-take zero f xs ys h k = refl
 filled-take (suc count) f [] ys h k = absurd (omega arith)
 filled-take (suc count) f (x ∷ xs) [] h k = absurd (omega arith)
 filled-take (suc count) f (x ∷ xs) (y ∷ ys) h k = ap (λ (zs : List ℕ). f 0 ∷ zs) (filled-take count (λ i. f (suc i)) xs ys (omega arith) (omega arith))
+
+-- the filled places alone, with the others behind them
+pub filled_part : (count : ℕ) (f : ℕ → ℕ) (xs : List ℕ) → filled count f (take count xs) ++ drop count xs ≡ filled count f xs
+unfolding filled over_to
+filled_part zero f xs = refl
+filled_part (suc count) f [] = refl
+filled_part (suc count) f (x ∷ xs) = ap (λ (zs : List ℕ). f 0 ∷ zs) (filled_part count (λ i. f (suc i)) xs)

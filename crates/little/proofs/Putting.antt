@@ -1,21 +1,22 @@
 -- Bytes put at an offset, one run behind the other (specs/Little, put_at).
 use mathlib.Core.Path.{◌≡◌, sym, ap, ap₂, ◌∙◌}
 use mathlib.Core.List.{List, [], ◌++◌, append_assoc}
-use Prim.Native.Nat.{ℕ, ◌+◌, ◌≤◌}
+use Prim.Native.Nat.{ℕ, ◌+◌, ◌-◌, ◌≤◌}
 use native.Mathlib.Omega.{arith}
-use lib.ListN.{length, take, drop, length-append, length-drop, take-append-drop}
-use lib.Seq.{sets, sets-eq, take_at, drop_at, drop-drop, take-append-le, drop-append-le, drop-append-add, length-take-le}
+use borrow.Rule.Slice.PartMut.{put_mid}
+use lib.ListN.{length, take, drop, replicate, length-append, length-take, length-drop, length-replicate, take-append-drop}
+use lib.Seq.{take_at, drop_at, drop-drop, take-append-le, drop-append-le, drop-append-add, length-take-le}
 use Rattle.little.specs.Little.{put_at}
 
 module _ (at : ℕ) where
-  -- a run of stores
-  pub put_sets : (xs bytes : List ℕ) → at + length xs ≤ length bytes → sets bytes at xs ≡ put_at at xs bytes
-  unfolding put_at
-  put_sets xs bytes h = sets-eq xs bytes at h ∙ append_assoc (take at bytes) xs (drop (at + length xs) bytes)
-
   pub put_none : (bytes : List ℕ) → put_at at [] bytes ≡ bytes
   unfolding put_at
   put_none bytes = let z : at + 0 ≡ at = omega arith in rw (z, take-append-drop)
+
+  -- a part of a slice, written anew
+  pub put_part : (end : ℕ) (xs bytes : List ℕ) → end ≡ at + length xs → put_mid at (end - at) bytes xs ≡ put_at at xs bytes
+  unfolding put_at
+  put_part end xs bytes e = let k : end - at ≡ length xs = omega arith in rw (k, drop-drop)
 
   put_put : (xs ys bytes : List ℕ) (m : ℕ) → at ≤ length bytes → m ≡ at + length xs
       → put_at m ys (put_at at xs bytes) ≡ put_at at (xs ++ ys) bytes
@@ -54,6 +55,19 @@ unfolding put_at
 put_length at xs bytes h =
     length-append (take at bytes) (xs ++ drop (at + length xs) bytes)
     ∙ omega (arith, length-take-le at bytes (omega arith), length-append xs (drop (at + length xs) bytes), length-drop (at + length xs) bytes)
+
+-- a part of a slice, and zeros in the part behind it
+pub put_zeros : (at width low : ℕ) (xs zs bytes : List ℕ) → low ≤ width → at + width ≤ length bytes → length xs ≡ low
+    → zs ≡ replicate (length (take (at + width - (at + low)) (drop (at + low) (put_mid at (at + low - at) bytes xs)))) 0
+    → put_mid (at + low) (at + width - (at + low)) (put_mid at (at + low - at) bytes xs) zs ≡ put_at at (xs ++ replicate (width - low) 0) bytes
+put_zeros at width low xs zs bytes h k e f =
+    let one = put_part at (at + low) xs bytes (omega arith) in
+    let whole = put_length at xs bytes (omega arith) in
+    let put = put_at at xs bytes in
+    let n : length (take (at + width - (at + low)) (drop (at + low) put)) ≡ width - low = omega (arith, length-take (at + width - (at + low)) (drop (at + low) put), length-drop (at + low) put) in
+    let g : zs ≡ replicate (width - low) 0 = rw (one, n) at f in
+    let m : length zs ≡ width - low = ap length g ∙ length-replicate (width - low) 0 in
+    rw (one, put_part (at + low) (at + width) zs put (omega arith), g) (put_put at xs (replicate (width - low) 0) bytes (at + low) (omega arith) (omega arith))
 
 -- in the first of two lists; at the seam
 put_left : (at : ℕ) (xs l r : List ℕ) → at + length xs ≤ length l → put_at at xs (l ++ r) ≡ put_at at xs l ++ r

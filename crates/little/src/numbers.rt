@@ -1,35 +1,29 @@
 // Little-endian numbers at any offset.
-ghost use Rattle.std.specs.Prelude.{◌≡◌, ◌++◌, ◌+◌, ◌≤◌, ◌<◌, ◌^◌, length};
+ghost use Rattle.std.specs.Prelude.{◌≡◌, ◌++◌, ◌+◌, ◌≤◌, ◌<◌, ◌^◌, length, take, drop};
 ghost use Rattle.little.specs.Little.{to_le, field, put_at};
 
-// What the upper half of two, four and eight bytes counts: 256, 256^2, 256^4.
-const BYTE: u32 = 256;
-
-const TWO_BYTES: u32 = 65536;
-
-const FOUR_BYTES: u64 = 4294967296;
-
-// A byte, below 256: all that the sum asks of it.
-fn byte(b: u8) -> u32
-    ensures { (result ≡ b) × (result < 256) }
+// The bytes at an offset, as many as the number that is made of them takes.
+fn bytes_at<const N: usize>(bytes: &[u8], at: usize) -> [u8; N]
+    requires { at + N ≤ length bytes.now }
+    ensures { result ≡ take N (drop at bytes.now) }
 {
-    b as u32
+    *bytes[at..].first_chunk().unwrap()
 }
 
-// The number of two bytes at an offset. It and the two below are sums without a loop: the compiler makes one load of them.
+// The number of two bytes at an offset.
 pub fn read_u16(bytes: &[u8], at: usize) -> u32
     requires { at + 2 ≤ length bytes.now }
     ensures { (result ≡ field 2 at bytes.now) × (result < 256 ^ 2) }
 {
-    byte(bytes[at]) + byte(bytes[at + 1]) * BYTE
+    u32::from(u16::from_le_bytes(bytes_at(bytes, at)))
 }
 
-// .. of four, by its halves.
+// .. of four.
 pub fn read_u32(bytes: &[u8], at: usize) -> u32
     requires { at + 4 ≤ length bytes.now }
     ensures { (result ≡ field 4 at bytes.now) × (result < 256 ^ 4) }
 {
-    read_u16(bytes, at) + read_u16(bytes, at + 2) * TWO_BYTES
+    u32::from_le_bytes(bytes_at(bytes, at))
 }
 
 // .. of eight.
@@ -37,21 +31,18 @@ pub fn read_u64(bytes: &[u8], at: usize) -> u64
     requires { at + 8 ≤ length bytes.now }
     ensures { result ≡ field 8 at bytes.now }
 {
-    let low = read_u32(bytes, at) as u64;
-    let high = read_u32(bytes, at + 4) as u64;
-    low + high * FOUR_BYTES
+    u64::from_le_bytes(bytes_at(bytes, at))
 }
 
-// The lowest `width` bytes of v are put at an offset; the other bytes stay.
+// The lowest `width` bytes of v, zeros past its eighth, are put at an offset; the other bytes stay.
 pub fn write_le(bytes: &mut [u8], at: usize, width: usize, v: u64)
     requires { at + width ≤ length bytes.old }
     ensures { bytes.new ≡ put_at at (to_le width v) bytes.old }
 {
-    let mut x = v;
-    for i in 0..width {
-        bytes[at + i] = (x % 256) as u8;
-        x = x / 256;
-    }
+    let number = v.to_le_bytes();
+    let low = width.min(number.len());
+    bytes[at..at + low].copy_from_slice(&number[..low]);
+    bytes[at + low..at + width].fill(0);
 }
 
 // Two numbers, v of `first` bytes and w of `second` bytes behind it.
@@ -59,6 +50,6 @@ pub fn write_two(bytes: &mut [u8], at: usize, first: usize, v: u32, second: usiz
     requires { at + first + second ≤ length bytes.old }
     ensures { bytes.new ≡ put_at at (to_le first v ++ to_le second w) bytes.old }
 {
-    write_le(bytes, at, first, v as u64);
+    write_le(bytes, at, first, u64::from(v));
     write_le(bytes, at + first, second, w);
 }

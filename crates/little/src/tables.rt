@@ -9,7 +9,7 @@ pub fn long_fields_in(bytes: &[u8], at: usize, stride: usize, count: usize, tabl
     requires { (count ≤ length table.old) × ((i : ℕ) → i < count → at + stride * i + 8 ≤ length bytes.now) }
     ensures { table.new ≡ filled count (column 8 at stride bytes.now) table.old }
 {
-    for i in 0..count {
-        table[i] = read_u64(bytes, at + stride * i);
+    for (i, place) in table[..count].iter_mut().enumerate() {
+        *place = read_u64(bytes, at + stride * i);
     }
 }

@@ -1,9 +1,7 @@
--- Two fields of two bytes each.
-use native.Mathlib.Omega.{arith}
-use Rattle.little.proofs.LittleLaws.{field_join}
+-- What the library makes of the bytes.
+use mathlib.Core.Path.{◌∙◌}
+use Rattle.little.proofs.Library.{read}
 use Rattle.little.proofs.numbers.read_u32.Goals as goal
 
 pub returns : goal.returns
-returns c =
-    let a = c.args in
-    (omega (arith, field_join 2 2 a.at a.bytes.now (omega arith)), omega arith)
+returns c = (c.from_le_bytes.ensures ∙ rw c.bytes_at.ensures (read 3 c.args.at c.args.bytes.now c.requires), c.from_le_bytes.type_inv)

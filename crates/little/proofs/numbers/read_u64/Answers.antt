@@ -1,9 +1,6 @@
--- Two fields of four bytes each.
-use native.Mathlib.Omega.{arith}
-use Rattle.little.proofs.LittleLaws.{field_join}
+-- What the library makes of the bytes.
+use Rattle.little.proofs.Library.{read}
 use Rattle.little.proofs.numbers.read_u64.Goals as goal
 
 pub returns : goal.returns
-returns c =
-    let a = c.args in
-    omega (arith, field_join 4 4 a.at a.bytes.now (omega arith))
+returns c = rw (c.from_le_bytes.ensures, c.bytes_at.ensures) (read 7 c.args.at c.args.bytes.now c.requires)
