@@ -1,5 +1,6 @@
 -- Sums of parts of a list.
-use Rattle.std.proofs.Common.{◌≡◌, ℕ, zero, suc, ◌+◌, ◌-◌, ◌≤◌, true, List, [], ◌∷◌, get_or, take, drop, refl, ap, ◌∙◌, arith, drop-drop}
+use Rattle.std.proofs.Common.{◌≡◌, ℕ, zero, suc, ◌+◌, ◌-◌, ◌≤◌, true, List, [], ◌∷◌, ◌++◌, length, reverse, get_or, take, drop, sym, refl, ap, ◌∙◌, arith, drop-drop, length-drop, take_at, take-append-drop}
+use Rattle.std.proofs.lemmas.List.{reverse-append, length-reverse}
 use Rattle.walk.specs.Numbers.{le?, sum, all_up_to}
 use Rattle.walk.proofs.Tests.{and_true, le?_sound, le?_complete}
 
@@ -30,6 +31,23 @@ sum-drop_falls xs i j h =
     let e : i + (j - i) ≡ j = omega arith in
     let d : drop (j - i) (drop i xs) ≡ drop j xs = drop-drop (j - i) i xs ∙ ap (λ (k : ℕ). drop k xs) e in
     omega (arith, sum-take-drop (drop i xs) (j - i), ap sum d)
+
+pub sum-append : (xs ys : List ℕ) → sum (xs ++ ys) ≡ sum xs + sum ys
+sum-append [] ys = omega arith
+sum-append (x ∷ xs) ys = omega (arith, sum-append xs ys)
+
+sum-reverse : (xs : List ℕ) → sum (reverse xs) ≡ sum xs
+sum-reverse [] = refl
+sum-reverse (x ∷ xs) = omega (arith, ap sum (reverse-append (x ∷ []) xs), sum-append (reverse xs) (x ∷ []), sum-reverse xs)
+
+-- the first of a list's mirror are its last
+pub sum-take-reverse : (xs : List ℕ) (i : ℕ) → i ≤ length xs → sum (take i (reverse xs)) ≡ sum (drop (length xs - i) xs)
+sum-take-reverse xs i h =
+    let k : ℕ = length xs - i in
+    let n : length (reverse (drop k xs)) ≡ i = omega (arith, length-reverse (drop k xs), length-drop k xs) in
+    let e : reverse xs ≡ reverse (drop k xs) ++ reverse (take k xs) =
+    ap reverse (sym (take-append-drop k xs)) ∙ reverse-append (take k xs) (drop k xs) in
+    ap (λ (l : List ℕ). sum (take i l)) e ∙ ap sum (take_at (reverse (drop k xs)) (reverse (take k xs)) i n) ∙ sum-reverse (drop k xs)
 
 -- ---- every number of a list is at most b
 

@@ -1,16 +1,17 @@
 // The rules of a step, on the words of one threshold's part (rules 3.3 to 3.6).
 
-ghost use Rattle.std.specs.Prelude.{◌≡◌, ◌+◌, ◌-◌, ◌<◌, ◌≤◌, true, ◌++◌, length, take, drop, replicate};
+ghost use Rattle.std.specs.Prelude.{◌≡◌, ℕ, ◌+◌, ◌-◌, ◌<◌, ◌≤◌, true, List, ◌++◌, length, take, drop, replicate};
+ghost use Rattle.std.specs.Iterator.{UpTo, AlwaysYields};
 ghost use Rattle.walk.specs.Numbers.{sum, all_up_to};
 ghost use Rattle.walk.specs.Units.{million, wide, mass_limit};
 ghost use Rattle.walk.specs.Row.{new_masses, roundings, kept, dropped};
 
 use crate::mass::mass_up;
 
-// Where a boundary lies among the new masses, and the spent mass of its side then.
+// How many of the new masses one side absorbs, and its spent mass then.
 #[derive(Clone, Copy)]
 struct Edge {
-    pub at: usize,
+    pub absorbed: usize,
     pub spent: u64,
 }
 
@@ -32,82 +33,35 @@ pub(crate) fn spread(part: &mut [u64], n: usize, a: u64) -> u32
 {
     let mut prev: u64 = 0;
     let mut rounded: u32 = 0;
-    let mut i = 0;
-    while i < n {
-        let x = part[i];
-        let new = mass_up(a, x, prev);
-        part[i] = new.mass;
+    for x in &mut part[..n] {
+        let old = *x;
+        let new = mass_up(a, old, prev);
+        *x = new.mass;
         rounded += new.rounding;
-        prev = x;
-        i += 1;
+        prev = old;
     }
     let last = mass_up(a, 0, prev);
     part[n] = last.mass;
     rounded + last.rounding
 }
 
-// The upper boundary (rules 3.4): masses are taken off the top while they and the upper spent mass are at most e.
-fn find_upper(cs: &[u64], spent: u64, e: u64) -> Edge
-    requires { spent ≤ e }
-    ensures { (result.at ≡ kept e spent cs.now) × (result.spent ≡ spent + sum (drop result.at cs.now)) }
+// Masses of one end are absorbed, one after another, while they and the spent mass of that side are at most e.
+fn absorb<'a, I: Iterator<Item = &'a u64> + Drop>(masses: I, spent: u64, e: u64) -> Edge
+    requires can { I.can_next masses }
+    requires few { UpTo (I.remaining masses) wide }
+    requires allowed { spent ≤ e }
+    ensures { (xs : List ℕ) → AlwaysYields I.next_gives (λ x. x.now) masses xs
+        → (result.absorbed ≡ dropped e spent xs) × (result.spent ≡ spent + sum (take result.absorbed xs)) }
 {
-    let mut at = cs.len();
-    let mut taken = spent;
-    while at > 0 {
-        let highest = cs[at - 1];
-        if highest > e - taken {
-            return Edge {
-                at: at,
-                spent: taken,
-            };
+    let mut edge = Edge { absorbed: 0, spent };
+    for mass in masses {
+        if *mass > e - edge.spent {
+            break;
         }
-        taken += highest;
-        at -= 1;
+        edge.spent += *mass;
+        edge.absorbed += 1;
     }
-    Edge {
-        at: at,
-        spent: taken,
-    }
-}
-
-// The lower boundary (rules 3.5): masses are taken off the bottom while they and the lower spent mass are at most e.
-fn find_lower(cs: &[u64], spent: u64, e: u64) -> Edge
-    requires { spent ≤ e }
-    ensures { (result.at ≡ dropped e spent cs.now) × (result.spent ≡ spent + sum (take result.at cs.now)) }
-{
-    let mut at = 0;
-    let mut taken = spent;
-    while at < cs.len() {
-        let lowest = cs[at];
-        if lowest > e - taken {
-            return Edge {
-                at: at,
-                spent: taken,
-            };
-        }
-        taken += lowest;
-        at += 1;
-    }
-    Edge {
-        at: at,
-        spent: taken,
-    }
-}
-
-// The k words from lo on go to the front; most steps leave the lower boundary where it is, and copy nothing.
-fn shift_down(part: &mut [u64], lo: usize, k: usize)
-    requires { lo + k ≤ length part.old }
-    ensures { part.new ≡ take k (drop lo part.old) ++ drop k part.old }
-{
-    if lo == 0 {
-        return;
-    }
-    let mut i = 0;
-    while i < k {
-        let x = part[lo + i];
-        part[i] = x;
-        i += 1;
-    }
+    edge
 }
 
 // Every word from k on becomes zero (rules 5.1).
@@ -115,31 +69,26 @@ pub fn clear_from(part: &mut [u64], k: usize)
     requires { k ≤ length part.old }
     ensures { part.new ≡ take k part.old ++ replicate (length part.old - k) 0 }
 {
-    let mut i = k;
-    while i < part.len() {
-        part[i] = 0;
-        i += 1;
-    }
+    part[k..].fill(0);
 }
 
 // Boundaries and spent masses (rules 3.4 to 3.6) on the first m words: what lies between the boundaries moves to the front.
 pub(crate) fn trim(part: &mut [u64], m: usize, over: u64, under: u64, e: u64) -> Cut
-    requires { (m ≤ length part.old) × (over ≤ e) × (under ≤ e) × (e + e < sum (take m part.old) + over + under) }
+    requires { (m ≤ length part.old) × (m ≤ wide) × (over ≤ e) × (under ≤ e) × (e + e < sum (take m part.old) + over + under) }
     ensures { (result.hi ≡ kept e over (take m part.old))
         × (result.lo ≡ dropped e under (take m part.old))
         × (result.over ≡ over + sum (drop result.hi (take m part.old)))
         × (result.under ≡ under + sum (take result.lo (take m part.old)))
         × (part.new ≡ take (result.hi - result.lo) (drop result.lo part.old) ++ drop (result.hi - result.lo) part.old) }
 {
-    let top = find_upper(&part[..m], over, e);
-    let hi = top.at;
-    let bottom = find_lower(&part[..m], under, e);
-    let lo = bottom.at;
-    let k = hi - lo;
-    shift_down(part, lo, k);
+    let top = absorb(part[..m].iter().rev(), over, e);
+    let bottom = absorb(part[..m].iter(), under, e);
+    let hi = m - top.absorbed;
+    let lo = bottom.absorbed;
+    part.copy_within(lo..hi, 0);
     Cut {
-        hi: hi,
-        lo: lo,
+        hi,
+        lo,
         over: top.spent,
         under: bottom.spent,
     }

@@ -1,31 +1,45 @@
--- Both boundaries are found on the same cells, so they do not meet (`places`), and what is shifted lies among the cells.
-use Rattle.std.proofs.Common.{◌<◌, ◌≤◌, take, sym, arith, length-take-le}
+-- Both sides absorb cells of the same row, so that the boundaries do not meet (`places`), and what is moved lies among the cells.
+use Rattle.std.proofs.Common.{◌≡◌, ℕ, ◌+◌, ◌-◌, ◌<◌, ◌≤◌, List, length, reverse, take, drop, arith, rules, length-take-le}
+use Rattle.std.proofs.lemmas.Iterator.{YieldsList-from_slice}
+use Rattle.std.proofs.lemmas.Iterator.Adapters.{YieldsList-from_rev_slice}
+use Rattle.walk.specs.Numbers.{sum}
+use Rattle.walk.specs.Row.{kept, dropped}
+use Rattle.walk.proofs.Loops.{kept_back}
 use Rattle.walk.proofs.Parts.{places}
-use Rattle.walk.proofs.row.trim.Goals.{After-find_lower-bottom}
+use Rattle.walk.proofs.row.trim.Goals.{After-absorb-bottom}
 use Rattle.walk.proofs.row.trim.Goals as goal
 
-pub slice_bounds-find_upper-end-2 : goal.slice_bounds-find_upper-end-2
-slice_bounds-find_upper-end-2 c = let a = c.args in sym (length-take-le a.m a.part.now (omega arith))
+module _ (c : After-absorb-bottom) where
+  abbrev cs : List ℕ
+  cs = take c.args.m c.args.part.now
 
-pub slice_bounds-find_lower-end-2 : goal.slice_bounds-find_lower-end-2
-slice_bounds-find_lower-end-2 c = let a = c.args in sym (length-take-le a.m a.part.now (omega arith))
+  size : length cs ≡ c.args.m
+  size = length-take-le c.args.m c.args.part.now (omega arith)
 
-ordered : (c : After-find_lower-bottom)
-    → let hi = c.find_upper-top.result.at in (c.find_lower-bottom.result.at < hi) × (hi ≤ c.args.m)
-ordered c =
-    let a = c.args in
-    let p = places a.e a.over a.under (take a.m a.part.now) c.requires.1 c.requires.2 c.requires.3
-    c.find_upper-top.result.at c.find_lower-bottom.result.at c.find_upper-top.ensures.0 c.find_lower-bottom.ensures.0 in
-    (p.0, omega (arith, p.1, length-take-le a.m a.part.now (omega (arith, c.requires))))
+  bottom : (c.absorb-bottom.result.absorbed ≡ dropped c.args.e c.args.under cs)
+      × (c.absorb-bottom.result.spent ≡ c.args.under + sum (take c.absorb-bottom.result.absorbed cs))
+  bottom = c.absorb-bottom.ensures cs (YieldsList-from_slice cs (cc)).runs
 
-pub overflow_sub-k : goal.overflow_sub-k
-overflow_sub-k c = omega (arith, ordered (goal.at.overflow_sub-k c).After-find_lower-bottom)
+  top : let hi = c.args.m - c.absorb-top.result.absorbed in
+      (c.absorb-top.result.absorbed ≤ c.args.m) × (hi ≡ kept c.args.e c.args.over cs)
+      × (c.absorb-top.result.spent ≡ c.args.over + sum (drop hi cs))
+  top =
+      let t = c.absorb-top.ensures (reverse cs) (YieldsList-from_rev_slice cs (cc)).runs in
+      let k = rw size at (kept_back c.args.e c.args.over c.absorb-top.result.absorbed cs (omega arith) t.0) in
+      (k.0, k.1, omega (arith, t.1, k.2))
 
-pub shift_down-requires : goal.shift_down-requires
-shift_down-requires c = omega (arith, ordered (goal.at.shift_down-requires c).After-find_lower-bottom, c.requires)
+  ordered : c.absorb-bottom.result.absorbed < c.args.m - c.absorb-top.result.absorbed
+  ordered = (places c.args.e c.args.over c.args.under cs (omega arith) (omega arith) (omega arith) _ _ top.1 bottom.0).0
+
+pub overflow_sub-hi : goal.overflow_sub-hi
+overflow_sub-hi c = (top (goal.at.overflow_sub-hi c).After-absorb-bottom).0
+
+pub copy_within-requires-clause-start_le_end : goal.copy_within-requires-clause-start_le_end
+copy_within-requires-clause-start_le_end c =
+    omega (arith, ordered (goal.at.copy_within-requires-clause-start_le_end c).After-absorb-bottom)
 
 pub returns : goal.returns
 returns c =
-    let hi = c.find_upper-top in
-    let lo = c.find_lower-bottom in
-    (hi.ensures.0, lo.ensures.0, hi.ensures.1, lo.ensures.1, c.shift_down.ensures)
+    let t = top (goal.at.returns c).After-absorb-bottom in
+    let b = bottom (goal.at.returns c).After-absorb-bottom in
+    (t.1, b.0, t.2, b.1, search rules)

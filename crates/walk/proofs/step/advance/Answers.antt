@@ -26,7 +26,7 @@ trim-cut-requires c =
     let spread = c.spread-more in
     let live = c.first_above-first in
     let f = first_is (counted s) live.ensures in
-    omega (arith, f, spread.auto.part, s.room, s.sound, more s live.result f spread.new.part spread.ensures.1)
+    omega (arith, f, spread.auto.part, s.room, s.narrow, order s, s.sound, more s live.result f spread.new.part spread.ensures.1)
 
 -- after `trim`: both places are among the words, and the record is the definition's
 module _ (c : After-trim-cut) where

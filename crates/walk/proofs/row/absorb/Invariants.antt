@@ -1,0 +1,15 @@
+-- The masses so far are absorbed, and fit: `dropped_is` says what it means that the next does not.
+use Rattle.std.proofs.Common.{◌≡◌, ◌+◌, ◌≤◌, length, map}
+use Rattle.walk.specs.Numbers.{sum}
+use Rattle.walk.specs.Units.{wide}
+use Rattle.walk.proofs.row.absorb.Given as goal
+
+abbrev pub invariant-loop-mass : goal.invariant-loop-mass
+invariant-loop-mass g l = record {
+  can : (goal.iterator-loop-mass g).can_next l.mass-iterator;
+  ends : (goal.iterator-loop-mass g).is_finite l.mass-iterator;
+  few : l.edge.absorbed + (goal.iterator-loop-mass g).remaining l.mass-iterator ≤ wide;
+  counted : l.edge.absorbed ≡ length l.yielded;
+  fits : l.edge.spent ≤ l.e;
+  is : l.edge.spent ≡ l.spent + sum (map (λ x. x.now) l.yielded);
+}
