@@ -7,7 +7,7 @@ use Rattle.walk.specs.Units.{wide, horizon_limit}
 use Rattle.walk.specs.Mass.{mass_up}
 use Rattle.walk.specs.Walk.{below}
 use Rattle.walk.specs.Row.{Row, upper, new_masses, roundings, kept, dropped, cut, step_row}
-use Rattle.walk.specs.Record.{first_above, row_of, record_of, padded}
+use Rattle.walk.specs.Record.{Counted, Ordered, first_above, row_of, record_of, padded}
 use Rattle.walk.specs.Soundness.{Steppable}
 use Rattle.walk.specs.declared.Walked.{Walked}
 use Rattle.walk.specs.declared.row.Cut.{Cut}
@@ -51,10 +51,6 @@ same_walked : {l l' : ℤ} {u u' x x' y y' z z' : ℕ} → l ≡ l' → u ≡ u'
     → ◌≡◌ {A = Walked} (record { lower = l; upper = u; over = x; under = y; rounded = z }) (record { lower = l'; upper = u'; over = x'; under = y'; rounded = z' })
 same_walked p q r t v = λ i. record { lower = p i; upper = q i; over = r i; under = t i; rounded = v i }
 
--- what `first_above` asks of a lower boundary, which code reads from its bits
-abbrev pub Counted : ℤ → Type 0
-Counted z = (z ≡ below (first_above z)) × (first_above z ≤ suc horizon_limit)
-
 module _ {z : ℤ} (h : Counted z) where
   pub lower_back : to_z w32 (of_z w32 z) ≡ z
   lower_back = back z (first_above z) h.0 h.1
@@ -86,31 +82,32 @@ module _ {a e : ℕ} {w : Walked} {words : List ℕ} (s : Steppable a e w words)
   pub counted : Counted w.lower
   counted = (s.signed, omega (arith, order, s.early))
 
+  pub ordered : Ordered w
+  ordered = (s.signed, omega (arith, order))
+
   -- the words after `spread`: the cells stand in front
-  module _ (f : ℕ) (f-is : f ≡ first_above w.lower) (p1 : List ℕ)
-      (spreads : p1 ≡ new_masses a (take (w.upper - f) words) ++ drop (w.upper - f + 1) words) where
-    pub front : take (w.upper - f + 1) p1 ≡ cells
+  module _ {n : ℕ} (n-is : n ≡ w.upper - first_above w.lower) {p1 : List ℕ}
+      (spreads : p1 ≡ new_masses a (take n words) ++ drop (n + 1) words) where
+    pub front : take (n + 1) p1 ≡ cells
     unfolding row_of
     front =
-        let n : length (new_masses a (take (w.upper - f) words)) ≡ w.upper - f + 1 =
-        omega (arith, cells_length (mass_up a) 0 (take (w.upper - f) words), length-take-le (w.upper - f) words (omega (arith, s.room))) in
-        ap (take (w.upper - f + 1)) spreads
-        ∙ take_at (new_masses a (take (w.upper - f) words)) (drop (w.upper - f + 1) words) (w.upper - f + 1) n
-        ∙ ap (λ (x : ℕ). new_masses a (take (w.upper - x) words)) f-is
+        let m : length (new_masses a (take n words)) ≡ n + 1 =
+        omega (arith, cells_length (mass_up a) 0 (take n words), length-take-le n words (omega (arith, s.room))) in
+        ap (take (n + 1)) spreads ∙ take_at (new_masses a (take n words)) (drop (n + 1) words) (n + 1) m
+        ∙ ap (λ (i : ℕ). new_masses a (take i words)) n-is
 
     -- at most 769 of them are rounded
-    pub few_rounded : roundings a (take (w.upper - f) words) ≤ wide
+    pub few_rounded : roundings a (take n words) ≤ wide
     few_rounded =
-        let few = roundings_le a 0 (take (w.upper - f) words) in
-        omega (arith, few, length-take-le (w.upper - f) words (omega (arith, f-is, s.room)), f-is, s.narrow, order)
+        omega (arith, roundings_le a 0 (take n words), length-take-le n words (omega (arith, s.room)), s.narrow, order)
 
     -- what `trim` requires of them
-    pub more : e + e < sum (take (w.upper - f + 1) p1) + w.over + w.under
+    pub more : e + e < sum (take (n + 1) p1) + w.over + w.under
     unfolding row_of
     more = omega (arith, ap sum front, cells_full a s.threshold e s.half row s.sound, s.half)
 
     -- .. and after `trim`
-    module _ (c : Cut) (p2 : List ℕ) (trims : Trimmed e w.over w.under (take (w.upper - f + 1) p1) c p1 p2) where
+    module _ {c : Cut} {p2 : List ℕ} (trims : Trimmed e w.over w.under (take (n + 1) p1) c p1 p2) where
       trims_cells : Trimmed e w.over w.under cells c p1 p2
       trims_cells = rw front at trims
 
@@ -127,15 +124,15 @@ module _ {a e : ℕ} {w : Walked} {words : List ℕ} (s : Steppable a e w words)
           let t = trims_cells in
           let k = keep a s.threshold e s.half row s.sound in
           let d = apart a s.threshold e s.half row s.sound in
-          let rest = drop (w.upper - f + 1) p1 in
-          let n : length next.masses ≡ c.hi - c.lo = omega (arith, t.0, t.1, step_length a s.threshold e s.half row s.sound) in
-          ap (λ (j : ℕ). take j p2) n
+          let rest = drop (n + 1) p1 in
+          let m : length next.masses ≡ c.hi - c.lo = omega (arith, t.0, t.1, step_length a s.threshold e s.half row s.sound) in
+          ap (λ (j : ℕ). take j p2) m
           ∙ shifted cells rest c.lo (c.hi - c.lo) (omega (arith, t.0, t.1, k.within, d))
-          (sym (take-append-drop (w.upper - f + 1) p1) ∙ ap (λ (x : List ℕ). x ++ rest) front) t.4
+          (sym (take-append-drop (n + 1) p1) ∙ ap (λ (x : List ℕ). x ++ rest) front) t.4
           ∙ rw (t.0, t.1)
 
-      module _ (low : ℤ) (q : low ≡ below (first_above (to_z w32 (of_z w32 w.lower)) + c.lo))
-          (count : ℕ) (counts : count ≡ roundings a (take (w.upper - f) words)) where
+      module _ {low : ℤ} (q : low ≡ below (first_above (to_z w32 (of_z w32 w.lower)) + c.lo)) {f : ℕ} (f-is : f ≡ first_above w.lower)
+          {count : ℕ} (counts : count ≡ roundings a (take n words)) where
         abbrev walked : Walked
         walked = record { lower = to_z w32 (of_z w32 low); upper = f + c.hi; over = c.over; under = c.under; rounded = w.rounded + count }
 
@@ -149,7 +146,7 @@ module _ {a e : ℕ} {w : Walked} {words : List ℕ} (s : Steppable a e w words)
             (omega (arith, t.0, step_upper a s.threshold e s.half row s.sound))
             (t.2 ∙ ap (λ (k : ℕ). w.over + sum (drop k cells)) t.0)
             (t.3 ∙ ap (λ (d : ℕ). w.under + sum (take d cells)) t.1)
-            (ap (λ (x : ℕ). w.rounded + x) (counts ∙ ap (λ (x : ℕ). roundings a (take (w.upper - x) words)) f-is))
+            (ap (λ (x : ℕ). w.rounded + x) (counts ∙ ap (λ (i : ℕ). roundings a (take i words)) n-is))
 
         pub stepped : (walked ≡ record_of next) × (row_of walked p2 ≡ next)
         stepped = (record_is, ap (λ (r : Walked). row_of r p2) record_is ∙ row_front next p2 masses_front)
@@ -181,15 +178,17 @@ module _ {a e : ℕ} {w : Walked} {words : List ℕ} (s : Steppable a e w words)
         let live = (step_sound a s.threshold e s.half row s.sound).live in
         (lower_is ∙ ap below (sym first_next), omega (arith, first_next, m.upper_slow, live, row_length, order, s.early))
 
-    module _ (f : ℕ) (f-is : f ≡ first_above r.lower) where
-      pub live_is : f + length next.masses ≡ r.upper
+    pub next_ordered : Ordered r
+    next_ordered = (next_counted.0, omega (arith, first_next, upper_is))
+
+    module _ {k : ℕ} (k-is : k ≡ r.upper - first_above r.lower) where
+      pub live_is : k ≡ length next.masses
       live_is = omega (arith, first_next, upper_is)
 
       -- its words, cleared behind the masses
       pub cleared : (l l1 : List ℕ) → row_of r l ≡ next → length l ≡ wide
-          → l1 ≡ take (r.upper - f) l ++ replicate (length l - (r.upper - f)) 0 → l1 ≡ padded next.masses
+          → l1 ≡ take k l ++ replicate (length l - k) 0 → l1 ≡ padded next.masses
       unfolding row_of padded
       cleared l l1 same size p =
-          let n : r.upper - f ≡ length next.masses = omega (arith, live_is) in
-          let m : take (r.upper - f) l ≡ next.masses = rw f-is (ap (λ (x : Row). x.masses) same) in
-          rw (p, m, size, n)
+          let m : take k l ≡ next.masses = rw k-is (ap (λ (x : Row). x.masses) same) in
+          rw (p, m, size, live_is)

@@ -1,6 +1,6 @@
 -- A row as the code holds it: a record with a signed lower boundary, and the words of the threshold's part, the live ones in front.
-use Rattle.std.specs.Prelude.{ℕ, suc, ◌-◌, Bool, List, ◌++◌, length, take, replicate, ℤ, pos, negsuc}
-use Rattle.walk.specs.Units.{wide}
+use Rattle.std.specs.Prelude.{◌≡◌, ℕ, suc, ◌-◌, ◌≤◌, Bool, List, ◌++◌, length, take, replicate, ℤ, pos, negsuc}
+use Rattle.walk.specs.Units.{wide, horizon_limit}
 use Rattle.walk.specs.Walk.{below, wide?}
 use Rattle.walk.specs.Row.{Row, upper, start_row}
 use Rattle.walk.specs.declared.Walked.{Walked}
@@ -9,6 +9,14 @@ use Rattle.walk.specs.declared.Walked.{Walked}
 unfoldable pub first_above : ℤ → ℕ
 first_above (pos b) = suc b
 first_above (negsuc b) = 0
+
+-- a lower boundary from -1 on, of a walk of at most 50,000 draws
+abbrev pub Counted : ℤ → Type 0
+Counted z = (z ≡ below (first_above z)) × (first_above z ≤ suc horizon_limit)
+
+-- .. and of any two boundaries: the first live count is at most the upper one
+abbrev pub Ordered : Walked → Type 0
+Ordered w = (w.lower ≡ below (first_above w.lower)) × (first_above w.lower ≤ w.upper)
 
 -- the row of a record and its words: word i is the mass at count lower + 1 + i (rules 5.1)
 unfoldable pub row_of : Walked → List ℕ → Row

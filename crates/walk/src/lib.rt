@@ -2,6 +2,9 @@
 
 #![tactic(auto)]
 
+ghost use Rattle.std.specs.Prelude.{◌≡◌, ◌-◌, pos, ◌-ℤ◌};
+ghost use Rattle.walk.specs.Record.{first_above, Ordered};
+
 mod mass;
 pub mod row;
 pub mod soundness;
@@ -50,6 +53,23 @@ pub struct Walked {
     pub over: u64,
     pub under: u64,
     pub rounded: u32,
+}
+
+impl Walked {
+    // How far the boundaries are apart: taken in 64 bits, where no difference of two boundaries overflows.
+    pub(crate) fn apart(&self) -> i64
+        ensures { result ≡ pos self.now.upper -ℤ self.now.lower }
+    {
+        self.upper as i64 - self.lower as i64
+    }
+
+    // How many counts are live.
+    pub(crate) fn live(&self) -> usize
+        requires { Ordered self.now }
+        ensures { result ≡ self.now.upper - first_above self.now.lower }
+    {
+        self.apart() as usize - 1
+    }
 }
 
 // What a pass over masses keeps of them: bits that tell whether each is at most 2^43, and, where they are and are not too many, their sum.

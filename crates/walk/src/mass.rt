@@ -9,7 +9,7 @@ use crate::MILLION;
 // A unit in millionths of a unit, and one millionth less.
 const MILLIONTHS: u64 = MILLION as u64;
 
-const ALMOST_ONE: u64 = 999999;
+const ALMOST_ONE: u64 = MILLIONTHS - 1;
 
 // A new mass, and 1 where it was rounded, else 0.
 #[derive(Clone, Copy)]
@@ -27,8 +27,5 @@ pub(crate) fn mass_up(a: u64, stay: u64, come: u64) -> NewMass
     let sum = stay * (MILLIONTHS - a) + come * a;
     let mass = (sum + ALMOST_ONE) / MILLIONTHS;
     let rounding = (sum < mass * MILLIONTHS) as u32;
-    NewMass {
-        mass: mass,
-        rounding: rounding,
-    }
+    NewMass { mass, rounding }
 }

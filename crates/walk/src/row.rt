@@ -85,7 +85,10 @@ pub(crate) fn trim(part: &mut [u64], m: usize, over: u64, under: u64, e: u64) ->
     let bottom = absorb(part[..m].iter(), under, e);
     let hi = m - top.absorbed;
     let lo = bottom.absorbed;
-    part.copy_within(lo..hi, 0);
+    // Most steps leave the lower boundary where it is, and copy nothing.
+    if lo > 0 {
+        part.copy_within(lo..hi, 0);
+    }
     Cut {
         hi,
         lo,

@@ -1,7 +1,7 @@
 // Whether a state that was handed in may be walked on (rules 8.4, of one threshold).
 
-ghost use Rattle.std.specs.Prelude.{◌≡◌, ℕ, ◌+◌, ◌-◌, ◌≤◌, ◌&&◌, List, length, take, slice_index};
-ghost use Rattle.walk.specs.Numbers.{le?, choose, sum, all_up_to};
+ghost use Rattle.std.specs.Prelude.{◌≡◌, ℕ, ◌+◌, ◌≤◌, ◌&&◌, List, length, take, slice_index};
+ghost use Rattle.walk.specs.Numbers.{le?, sum, all_up_to};
 ghost use Rattle.walk.specs.Units.{M, mass_limit, wide};
 ghost use Rattle.walk.specs.Walk.{below};
 ghost use Rattle.walk.specs.Record.{first_above, is_wide};
@@ -9,7 +9,6 @@ ghost use Rattle.walk.specs.Soundness.{rounded_fits, boundaries_sound, words_sou
 ghost use Rattle.walk.specs.Weighing.{Weighs};
 
 use crate::{M, MASS_LIMIT, WIDE, Walked, Weighed};
-use std::num::wrapping_add_u64;
 
 // How far apart the boundaries of a wide walk are.
 const WIDE_APART: i64 = WIDE as i64 + 1;
@@ -29,33 +28,19 @@ pub fn rounded_fits(w: Walked, n: u32) -> bool
     w.rounded as u64 <= ROUNDED_A_DRAW * n as u64
 }
 
-// What refusal 11 asks of the boundaries and the spent masses, in its order. Differences are taken in 64 bits, where none overflows.
+// What refusal 11 asks of the boundaries and the spent masses, in its order.
 pub fn boundaries_sound(w: Walked, n: u32, ones: u32, e: u64) -> bool
     ensures { result ≡ boundaries_sound e n ones w }
 {
-    if w.lower < -1 {
-        return false;
-    }
-    if w.upper as u64 > n as u64 + 1 {
-        return false;
-    }
-    let apart = w.upper as i64 - w.lower as i64;
-    if apart < 2 {
-        return false;
-    }
-    if apart > WIDE_APART {
-        return false;
-    }
-    if ones as i64 <= w.lower as i64 {
-        return false;
-    }
-    if ones >= w.upper {
-        return false;
-    }
-    if w.over > e {
-        return false;
-    }
-    w.under <= e
+    let apart = w.apart();
+    w.lower >= -1
+        && w.upper as u64 <= n as u64 + 1
+        && apart >= 2
+        && apart <= WIDE_APART
+        && (w.lower as i64) < ones as i64
+        && ones < w.upper
+        && w.over <= e
+        && w.under <= e
 }
 
 // A pass over masses: of none.
@@ -69,22 +54,19 @@ pub fn weigh_none() -> Weighed
 pub fn weigh_next(w: Weighed, x: u64) -> Weighed
     ensures { (masses : List ℕ) (i : ℕ) → slice_index masses i ≡ x → Weighs masses i w → Weighs masses (i + 1) result }
 {
-    let above = wrapping_add_u64(x, BELOW_LIMIT);
-    let sum = wrapping_add_u64(w.sum, x);
     Weighed {
-        bits: w.bits | (x | above),
-        sum: sum,
+        bits: w.bits | (x | x.wrapping_add(BELOW_LIMIT)),
+        sum: w.sum.wrapping_add(x),
     }
 }
 
-// .. and of the first words.
-fn weigh_first(words: &[u64], count: usize) -> Weighed
-    requires { count ≤ length words.now }
-    ensures { Weighs words.now count result }
+// .. and of all words.
+fn weigh(words: &[u64]) -> Weighed
+    ensures { Weighs words.now (length words.now) result }
 {
     let mut w = weigh_none();
-    for i in 0..count {
-        w = weigh_next(w, words[i]);
+    for x in words {
+        w = weigh_next(w, *x);
     }
     w
 }
@@ -93,14 +75,7 @@ fn weigh_first(words: &[u64], count: usize) -> Weighed
 fn is_whole(live: u64, over: u64, under: u64) -> bool
     ensures { result ≡ le? M (live + over + under) }
 {
-    if live >= M {
-        return true;
-    }
-    let missing = M - live;
-    if over >= missing {
-        return true;
-    }
-    under >= missing - over
+    M.saturating_sub(live).saturating_sub(over) <= under
 }
 
 // What refusal 11 asks of the live masses, at most 769, beside both spent masses.
@@ -108,33 +83,21 @@ pub fn masses_sound(w: Weighed, over: u64, under: u64) -> bool
     ensures { (masses : List ℕ) (count : ℕ) → count ≤ wide → Weighs masses count w
         → result ≡ (all_up_to mass_limit (take count masses) && le? M (sum (take count masses) + over + under)) }
 {
-    if w.bits >= TWICE_LIMIT {
-        return false;
-    }
-    is_whole(w.sum, over, under)
+    w.bits < TWICE_LIMIT && is_whole(w.sum, over, under)
 }
 
-// How many words are live: one for each live count, or those that are there.
-fn live_words(w: Walked, len: usize) -> usize
-    requires { (w.lower ≡ below (first_above w.lower)) × (first_above w.lower ≤ w.upper) }
-    ensures { result ≡ choose (le? (w.upper - first_above w.lower) len) (w.upper - first_above w.lower) len }
-{
-    let counts = (w.upper as i64 - w.lower as i64 - 1) as usize;
-    if counts <= len { counts } else { len }
-}
-
-// Of any words, where the boundaries are sound: the live ones pass refusal 11.
+// Of any words, where the boundaries are sound: the live ones pass refusal 11. There is one for each live count, or those that are there.
 pub fn words_sound(part: &[u64], w: Walked) -> bool
     requires { (w.lower ≡ below (first_above w.lower)) × (first_above w.lower ≤ w.upper) × (w.upper ≤ first_above w.lower + wide) }
     ensures { result ≡ words_sound w part.now }
 {
-    let m = live_words(w, part.len());
-    masses_sound(weigh_first(part, m), w.over, w.under)
+    let words = w.live().min(part.len());
+    masses_sound(weigh(&part[..words]), w.over, w.under)
 }
 
-// Wide: upper - lower - 1 is 769 (rules 3.7). Of any boundaries: the difference is taken in 64 bits.
+// Wide: upper - lower - 1 is 769 (rules 3.7). Of any boundaries.
 pub fn is_wide(w: Walked) -> bool
     ensures { result ≡ is_wide w }
 {
-    w.upper as i64 - w.lower as i64 == WIDE_APART
+    w.apart() == WIDE_APART
 }

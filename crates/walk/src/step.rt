@@ -1,10 +1,10 @@
 // One step of a walk (rules 3.3 to 3.6).
 
-ghost use Rattle.std.specs.Prelude.{◌≡◌, suc, ◌+◌, ◌≤◌, length};
-ghost use Rattle.walk.specs.Units.{wide, horizon_limit};
+ghost use Rattle.std.specs.Prelude.{◌≡◌, ◌+◌, ◌≤◌, length};
+ghost use Rattle.walk.specs.Units.{wide};
 ghost use Rattle.walk.specs.Walk.{below};
 ghost use Rattle.walk.specs.Row.{step_row};
-ghost use Rattle.walk.specs.Record.{first_above, row_of, record_of, padded};
+ghost use Rattle.walk.specs.Record.{Counted, first_above, row_of, record_of, padded};
 ghost use Rattle.walk.specs.Soundness.{Steppable};
 
 use crate::Walked;
@@ -12,7 +12,7 @@ use crate::row::{clear_from, spread, trim};
 
 // The first live count: the lower boundary plus one.
 fn first_above(lower: i32) -> u32
-    requires { (lower ≡ below (first_above lower)) × (first_above lower ≤ suc horizon_limit) }
+    requires { Counted lower }
     ensures { result ≡ first_above lower }
 {
     (lower + 1) as u32
@@ -20,7 +20,7 @@ fn first_above(lower: i32) -> u32
 
 // The lower boundary after a step that drops so many counts.
 fn raised(lower: i32, by: usize) -> i32
-    requires { (lower ≡ below (first_above lower)) × (first_above lower ≤ suc horizon_limit) × (by ≤ wide) }
+    requires { Counted lower × (by ≤ wide) }
     ensures { result ≡ below (first_above lower + by) }
 {
     lower + by as i32
@@ -34,20 +34,15 @@ pub fn advance(part: &mut [u64], w: Walked, a: u32, e: u64) -> Walked
     ensures { (result ≡ record_of (step_row a e (row_of w part.old)))
         × (row_of result part.new ≡ step_row a e (row_of w part.old)) }
 {
-    let first = first_above(w.lower);
-    let n = (w.upper - first) as usize;
+    let n = w.live();
     let more = spread(part, n, a as u64);
-    let m = n + 1;
-    let cut = trim(part, m, w.over, w.under, e);
-    let lower = raised(w.lower, cut.lo);
-    let upper = first + cut.hi as u32;
-    let rounded = w.rounded + more;
+    let cut = trim(part, n + 1, w.over, w.under, e);
     Walked {
-        lower: lower,
-        upper: upper,
+        lower: raised(w.lower, cut.lo),
+        upper: first_above(w.lower) + cut.hi as u32,
         over: cut.over,
         under: cut.under,
-        rounded: rounded,
+        rounded: w.rounded + more,
     }
 }
 
@@ -58,8 +53,6 @@ pub fn step(part: &mut [u64], w: Walked, a: u32, e: u64) -> Walked
         × (part.new ≡ padded (step_row a e (row_of w part.old)).masses) }
 {
     let next = advance(part, w, a, e);
-    let first = first_above(next.lower);
-    let k = (next.upper - first) as usize;
-    clear_from(part, k);
+    clear_from(part, next.live());
     next
 }

@@ -1,5 +1,5 @@
 -- Both sides absorb cells of the same row, so that the boundaries do not meet (`places`), and what is moved lies among the cells.
-use Rattle.std.proofs.Common.{◌≡◌, ℕ, ◌+◌, ◌-◌, ◌<◌, ◌≤◌, List, length, reverse, take, drop, arith, rules, length-take-le}
+use Rattle.std.proofs.Common.{◌≡◌, ℕ, ◌+◌, ◌-◌, ◌<◌, ◌≤◌, List, length, reverse, take, drop, arith, rules, take-append-drop, length-take-le}
 use Rattle.std.proofs.lemmas.Iterator.{YieldsList-from_slice}
 use Rattle.std.proofs.lemmas.Iterator.Adapters.{YieldsList-from_rev_slice}
 use Rattle.walk.specs.Numbers.{sum}
@@ -38,8 +38,15 @@ pub copy_within-requires-clause-start_le_end : goal.copy_within-requires-clause-
 copy_within-requires-clause-start_le_end c =
     omega (arith, ordered (goal.at.copy_within-requires-clause-start_le_end c).After-absorb-bottom)
 
-pub returns : goal.returns
-returns c =
-    let t = top (goal.at.returns c).After-absorb-bottom in
-    let b = bottom (goal.at.returns c).After-absorb-bottom in
+pub returns-then-lo-gt0 : goal.returns-then-lo-gt0
+returns-then-lo-gt0 c =
+    let t = top (goal.at.returns-then-lo-gt0 c).After-absorb-bottom in
+    let b = bottom (goal.at.returns-then-lo-gt0 c).After-absorb-bottom in
     (t.1, b.0, t.2, b.1, search rules)
+
+pub returns-else-lo-gt0 : goal.returns-else-lo-gt0
+returns-else-lo-gt0 c =
+    let t = top (goal.at.returns-else-lo-gt0 c).After-absorb-bottom in
+    let b = bottom (goal.at.returns-else-lo-gt0 c).After-absorb-bottom in
+    let stays : c.absorb-bottom.result.absorbed ≡ 0 = omega arith in
+    (t.1, b.0, t.2, b.1, rw (stays, take-append-drop))

@@ -4,4 +4,4 @@ use Rattle.walk.proofs.WeighingLaws.{weighs_next}
 use Rattle.walk.proofs.soundness.weigh_next.Goals as goal
 
 pub returns : goal.returns
-returns c = λ masses i is h. weighs_next masses i _ _ _ _ is h c.wrapping_add_u64-above.ensures.value refl c.wrapping_add_u64-sum.ensures.value
+returns c = λ masses i is h. weighs_next masses i _ _ _ _ is h refl refl refl

@@ -12,7 +12,7 @@ overflow_cast-result c = record { sfits = omega arith }
 pub overflow_add-result : goal.overflow_add-result
 overflow_add-result c =
     let f = first_above c.args.lower in
-    rw (raise_sum c.args.lower f c.requires.0 c.requires.1 c.args.by c.requires.2) (below_fits (f + c.args.by) (omega arith))
+    rw (raise_sum c.args.lower f c.requires.0.0 c.requires.0.1 c.args.by c.requires.1) (below_fits (f + c.args.by) (omega arith))
 
 pub returns : goal.returns
-returns c = raise_bits c.args.lower (first_above c.args.lower) c.requires.0 c.requires.1 c.args.by c.requires.2
+returns c = raise_bits c.args.lower (first_above c.args.lower) c.requires.0.0 c.requires.0.1 c.args.by c.requires.1
