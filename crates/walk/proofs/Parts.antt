@@ -51,16 +51,6 @@ same_walked : {l l' : ℤ} {u u' x x' y y' z z' : ℕ} → l ≡ l' → u ≡ u'
     → ◌≡◌ {A = Walked} (record { lower = l; upper = u; over = x; under = y; rounded = z }) (record { lower = l'; upper = u'; over = x'; under = y'; rounded = z' })
 same_walked p q r t v = λ i. record { lower = p i; upper = q i; over = r i; under = t i; rounded = v i }
 
-module _ {z : ℤ} (h : Counted z) where
-  pub lower_back : to_z w32 (of_z w32 z) ≡ z
-  lower_back = back z (first_above z) h.0 h.1
-
-  pub counted_bits : Counted (to_z w32 (of_z w32 z))
-  counted_bits = rw lower_back h
-
-  pub first_is : {f : ℕ} → f ≡ first_above (to_z w32 (of_z w32 z)) → f ≡ first_above z
-  first_is p = p ∙ ap first_above lower_back
-
 module _ {a e : ℕ} {w : Walked} {words : List ℕ} (s : Steppable a e w words) where
   abbrev row : Row
   row = row_of w words
@@ -131,7 +121,7 @@ module _ {a e : ℕ} {w : Walked} {words : List ℕ} (s : Steppable a e w words)
           (sym (take-append-drop (n + 1) p1) ∙ ap (λ (x : List ℕ). x ++ rest) front) t.4
           ∙ rw (t.0, t.1)
 
-      module _ {low : ℤ} (q : low ≡ below (first_above (to_z w32 (of_z w32 w.lower)) + c.lo)) {f : ℕ} (f-is : f ≡ first_above w.lower)
+      module _ {low : ℤ} (q : low ≡ below (first_above w.lower + c.lo)) {f : ℕ} (f-is : f ≡ first_above w.lower)
           {count : ℕ} (counts : count ≡ roundings a (take n words)) where
         abbrev walked : Walked
         walked = record { lower = to_z w32 (of_z w32 low); upper = f + c.hi; over = c.over; under = c.under; rounded = w.rounded + count }
@@ -140,9 +130,8 @@ module _ {a e : ℕ} {w : Walked} {words : List ℕ} (s : Steppable a e w words)
         unfolding row_of record_of step_row cut
         record_is =
             let t = trims_cells in
-            let p = q ∙ ap (λ (z : ℤ). below (first_above z + c.lo)) (lower_back counted) in
-            let fits = to_z-of_z w32 low (rw p (below_fits (first_above w.lower + c.lo) (omega (arith, counted.1, places_fit)))) in
-            same_walked (fits ∙ p ∙ ap (λ (d : ℕ). below (first_above w.lower + d)) t.1)
+            let fits = to_z-of_z w32 low (rw q (below_fits (first_above w.lower + c.lo) (omega (arith, counted.1, places_fit)))) in
+            same_walked (fits ∙ q ∙ ap (λ (d : ℕ). below (first_above w.lower + d)) t.1)
             (omega (arith, t.0, step_upper a s.threshold e s.half row s.sound))
             (t.2 ∙ ap (λ (k : ℕ). w.over + sum (drop k cells)) t.0)
             (t.3 ∙ ap (λ (d : ℕ). w.under + sum (take d cells)) t.1)

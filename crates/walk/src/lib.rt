@@ -2,8 +2,10 @@
 
 #![tactic(auto)]
 
-ghost use Rattle.std.specs.Prelude.{◌≡◌, ◌-◌, pos, ◌-ℤ◌};
-ghost use Rattle.walk.specs.Record.{first_above, Ordered};
+ghost use Rattle.std.specs.Prelude.{◌≡◌, ◌+◌, ◌-◌, ◌≤◌, pos, ◌-ℤ◌};
+ghost use Rattle.walk.specs.Units.{wide};
+ghost use Rattle.walk.specs.Walk.{below};
+ghost use Rattle.walk.specs.Record.{Counted, Ordered, first_above};
 
 mod mass;
 pub mod row;
@@ -13,7 +15,7 @@ pub mod starting;
 pub mod step;
 
 // The whole, in units of 1/2^42. It and the numbers below are those of specs/Units.
-pub const M: u64 = 4398046511104;
+pub const M: u64 = 1 << 42;
 
 // Thresholds are in millionths.
 pub const MILLION: u32 = 1000000;
@@ -22,12 +24,12 @@ pub const MILLION: u32 = 1000000;
 pub const WIDE: usize = 769;
 
 // The largest live word of a state that is not spoiled.
-pub const MASS_LIMIT: u64 = 8796093022208;
+pub const MASS_LIMIT: u64 = 2 * M;
 
 // The largest horizon, in draws, and the largest allowance.
 pub const HORIZON_LIMIT: u32 = 50000;
 
-pub const ALLOWANCE_LIMIT: u64 = 2199023255551;
+pub const ALLOWANCE_LIMIT: u64 = M / 2 - 1;
 
 // The portion of its allowance that a side may have spent after some draws.
 #[derive(Clone, Copy)]
@@ -69,6 +71,22 @@ impl Walked {
         ensures { result ≡ self.now.upper - first_above self.now.lower }
     {
         self.apart() as usize - 1
+    }
+
+    // The first live count: the lower boundary plus one.
+    pub(crate) fn first(&self) -> u32
+        requires { Counted self.now.lower }
+        ensures { result ≡ first_above self.now.lower }
+    {
+        (self.lower + 1) as u32
+    }
+
+    // The lower boundary after a step that drops so many counts.
+    pub(crate) fn raised(&self, by: usize) -> i32
+        requires { Counted self.now.lower × (by ≤ wide) }
+        ensures { result ≡ below (first_above self.now.lower + by) }
+    {
+        self.lower + by as i32
     }
 }
 

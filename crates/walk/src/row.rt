@@ -8,10 +8,10 @@ ghost use Rattle.walk.specs.Row.{new_masses, roundings, kept, dropped};
 
 use crate::mass::mass_up;
 
-// How many of the new masses one side absorbs, and its spent mass then.
+// How many of the new masses join the spent mass of a side, and what that is then.
 #[derive(Clone, Copy)]
-struct Edge {
-    pub absorbed: usize,
+struct Absorbed {
+    pub count: usize,
     pub spent: u64,
 }
 
@@ -45,23 +45,23 @@ pub(crate) fn spread(part: &mut [u64], n: usize, a: u64) -> u32
     rounded + last.rounding
 }
 
-// Masses of one end are absorbed, one after another, while they and the spent mass of that side are at most e.
-fn absorb<'a, I: Iterator<Item = &'a u64> + Drop>(masses: I, spent: u64, e: u64) -> Edge
+// The new masses of one end, from outside in (rules 3.4, 3.5), join the spent mass of that side as long as it stays at most e.
+fn absorb<'a, I: Iterator<Item = &'a u64> + Drop>(masses: I, spent: u64, e: u64) -> Absorbed
     requires can { I.can_next masses }
     requires few { UpTo (I.remaining masses) wide }
     requires allowed { spent ≤ e }
     ensures { (xs : List ℕ) → AlwaysYields I.next_gives (λ x. x.now) masses xs
-        → (result.absorbed ≡ dropped e spent xs) × (result.spent ≡ spent + sum (take result.absorbed xs)) }
+        → (result.count ≡ dropped e spent xs) × (result.spent ≡ spent + sum (take result.count xs)) }
 {
-    let mut edge = Edge { absorbed: 0, spent };
+    let mut absorbed = Absorbed { count: 0, spent };
     for mass in masses {
-        if *mass > e - edge.spent {
+        if *mass > e - absorbed.spent {
             break;
         }
-        edge.spent += *mass;
-        edge.absorbed += 1;
+        absorbed.spent += *mass;
+        absorbed.count += 1;
     }
-    edge
+    absorbed
 }
 
 // Every word from k on becomes zero (rules 5.1).
@@ -83,8 +83,8 @@ pub(crate) fn trim(part: &mut [u64], m: usize, over: u64, under: u64, e: u64) ->
 {
     let top = absorb(part[..m].iter().rev(), over, e);
     let bottom = absorb(part[..m].iter(), under, e);
-    let hi = m - top.absorbed;
-    let lo = bottom.absorbed;
+    let hi = m - top.count;
+    let lo = bottom.count;
     // Most steps leave the lower boundary where it is, and copy nothing.
     if lo > 0 {
         part.copy_within(lo..hi, 0);

@@ -4,7 +4,6 @@ ghost use Rattle.std.specs.Prelude.{◌≡◌, length};
 ghost use Rattle.walk.specs.Units.{wide};
 ghost use Rattle.walk.specs.Record.{start_walked, start_part};
 
-use crate::row::clear_from;
 use crate::{M, Walked};
 
 // Boundaries 1 and -1, and nothing spent.
@@ -25,6 +24,6 @@ pub fn start_part(part: &mut [u64])
     requires { length part.old ≡ wide }
     ensures { part.new ≡ start_part }
 {
-    clear_from(part, 0);
+    part.fill(0);
     part[0] = M;
 }

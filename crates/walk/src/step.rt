@@ -1,30 +1,13 @@
 // One step of a walk (rules 3.3 to 3.6).
 
-ghost use Rattle.std.specs.Prelude.{◌≡◌, ◌+◌, ◌≤◌, length};
+ghost use Rattle.std.specs.Prelude.{◌≡◌, length};
 ghost use Rattle.walk.specs.Units.{wide};
-ghost use Rattle.walk.specs.Walk.{below};
 ghost use Rattle.walk.specs.Row.{step_row};
-ghost use Rattle.walk.specs.Record.{Counted, first_above, row_of, record_of, padded};
+ghost use Rattle.walk.specs.Record.{row_of, record_of, padded};
 ghost use Rattle.walk.specs.Soundness.{Steppable};
 
 use crate::Walked;
 use crate::row::{clear_from, spread, trim};
-
-// The first live count: the lower boundary plus one.
-fn first_above(lower: i32) -> u32
-    requires { Counted lower }
-    ensures { result ≡ first_above lower }
-{
-    (lower + 1) as u32
-}
-
-// The lower boundary after a step that drops so many counts.
-fn raised(lower: i32, by: usize) -> i32
-    requires { Counted lower × (by ≤ wide) }
-    ensures { result ≡ below (first_above lower + by) }
-{
-    lower + by as i32
-}
 
 // One step of the walk of the threshold a, in place, with e to spend: the new live masses stand in front, and what stands behind them is
 // left as it comes. The part may be of any length with a word more than are live: the code touches no other word. For `bucket_test` only, which
@@ -38,8 +21,8 @@ pub fn advance(part: &mut [u64], w: Walked, a: u32, e: u64) -> Walked
     let more = spread(part, n, a as u64);
     let cut = trim(part, n + 1, w.over, w.under, e);
     Walked {
-        lower: raised(w.lower, cut.lo),
-        upper: first_above(w.lower) + cut.hi as u32,
+        lower: w.raised(cut.lo),
+        upper: w.first() + cut.hi as u32,
         over: cut.over,
         under: cut.under,
         rounded: w.rounded + more,

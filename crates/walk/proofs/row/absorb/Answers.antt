@@ -8,9 +8,9 @@ use Rattle.walk.proofs.Loops.{sum_push, absorbed_all, absorbed_some}
 use Rattle.walk.proofs.row.absorb.Goals.{in-None, in-Some+then-mass-e}
 use Rattle.walk.proofs.row.absorb.Goals as goal
 
-pub overflow_add-edge-in-loop-mass : goal.overflow_add-edge-in-loop-mass
+pub overflow_add-absorbed-in-loop-mass : goal.overflow_add-absorbed-in-loop-mass
 unfolding wide
-overflow_add-edge-in-loop-mass g c = omega (arith, (c.in-Some.ensures.goes.on c.loop-mass.invariant.ends).2)
+overflow_add-absorbed-in-loop-mass g c = omega (arith, (c.in-Some.ensures.goes.on c.loop-mass.invariant.ends).2)
 
 pub loop-mass-preserved : goal.loop-mass-preserved
 loop-mass-preserved g c =

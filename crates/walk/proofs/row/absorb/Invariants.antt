@@ -8,8 +8,8 @@ abbrev pub invariant-loop-mass : goal.invariant-loop-mass
 invariant-loop-mass g l = record {
   can : (goal.iterator-loop-mass g).can_next l.mass-iterator;
   ends : (goal.iterator-loop-mass g).is_finite l.mass-iterator;
-  few : l.edge.absorbed + (goal.iterator-loop-mass g).remaining l.mass-iterator ≤ wide;
-  counted : l.edge.absorbed ≡ length l.yielded;
-  fits : l.edge.spent ≤ l.e;
-  is : l.edge.spent ≡ l.spent + sum (map (λ x. x.now) l.yielded);
+  few : l.absorbed.count + (goal.iterator-loop-mass g).remaining l.mass-iterator ≤ wide;
+  counted : l.absorbed.count ≡ length l.yielded;
+  fits : l.absorbed.spent ≤ l.e;
+  is : l.absorbed.spent ≡ l.spent + sum (map (λ x. x.now) l.yielded);
 }

@@ -16,19 +16,19 @@ module _ (c : After-absorb-bottom) where
   size : length cs ≡ c.args.m
   size = length-take-le c.args.m c.args.part.now (omega arith)
 
-  bottom : (c.absorb-bottom.result.absorbed ≡ dropped c.args.e c.args.under cs)
-      × (c.absorb-bottom.result.spent ≡ c.args.under + sum (take c.absorb-bottom.result.absorbed cs))
+  bottom : (c.absorb-bottom.result.count ≡ dropped c.args.e c.args.under cs)
+      × (c.absorb-bottom.result.spent ≡ c.args.under + sum (take c.absorb-bottom.result.count cs))
   bottom = c.absorb-bottom.ensures cs (YieldsList-from_slice cs (cc)).runs
 
-  top : let hi = c.args.m - c.absorb-top.result.absorbed in
-      (c.absorb-top.result.absorbed ≤ c.args.m) × (hi ≡ kept c.args.e c.args.over cs)
+  top : let hi = c.args.m - c.absorb-top.result.count in
+      (c.absorb-top.result.count ≤ c.args.m) × (hi ≡ kept c.args.e c.args.over cs)
       × (c.absorb-top.result.spent ≡ c.args.over + sum (drop hi cs))
   top =
       let t = c.absorb-top.ensures (reverse cs) (YieldsList-from_rev_slice cs (cc)).runs in
-      let k = rw size at (kept_back c.args.e c.args.over c.absorb-top.result.absorbed cs (omega arith) t.0) in
+      let k = rw size at (kept_back c.args.e c.args.over c.absorb-top.result.count cs (omega arith) t.0) in
       (k.0, k.1, omega (arith, t.1, k.2))
 
-  ordered : c.absorb-bottom.result.absorbed < c.args.m - c.absorb-top.result.absorbed
+  ordered : c.absorb-bottom.result.count < c.args.m - c.absorb-top.result.count
   ordered = (places c.args.e c.args.over c.args.under cs (omega arith) (omega arith) (omega arith) _ _ top.1 bottom.0).0
 
 pub overflow_sub-hi : goal.overflow_sub-hi
@@ -48,5 +48,5 @@ pub returns-else-lo-gt0 : goal.returns-else-lo-gt0
 returns-else-lo-gt0 c =
     let t = top (goal.at.returns-else-lo-gt0 c).After-absorb-bottom in
     let b = bottom (goal.at.returns-else-lo-gt0 c).After-absorb-bottom in
-    let stays : c.absorb-bottom.result.absorbed ≡ 0 = omega arith in
+    let stays : c.absorb-bottom.result.count ≡ 0 = omega arith in
     (t.1, b.0, t.2, b.1, rw (stays, take-append-drop))

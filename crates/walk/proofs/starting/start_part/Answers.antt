@@ -5,14 +5,10 @@ use Rattle.walk.specs.Row.{start_row}
 use Rattle.walk.specs.Record.{padded, start_part}
 use Rattle.walk.proofs.starting.start_part.Goals as goal
 
-pub clear_from-requires : goal.clear_from-requires
-unfolding wide
-clear_from-requires c = omega (arith, c.requires)
-
 pub bounds-part-0 : goal.bounds-part-0
 unfolding wide
-bounds-part-0 c = rw (c.clear_from.ensures, c.requires) (omega arith)
+bounds-part-0 c = omega arith
 
 pub returns : goal.returns
 unfolding start_part start_row padded M wide
-returns c = rw (c.clear_from.ensures, c.requires)
+returns c = rw (c.fill.ensures.after (λ y e. e), c.requires)

@@ -2,7 +2,7 @@
 use Rattle.std.proofs.Common.{◌≡◌, ◌≤◌, arith}
 use Rattle.walk.specs.Units.{wide, horizon_limit}
 use Rattle.walk.specs.Record.{first_above, row_of}
-use Rattle.walk.proofs.Parts.{order, ordered, counted, counted_bits, lower_back, first_is, few_rounded, more, places_fit, stepped}
+use Rattle.walk.proofs.Parts.{order, ordered, counted, few_rounded, more, places_fit, stepped}
 use Rattle.walk.proofs.step.advance.Goals.{After-trim-cut}
 use Rattle.walk.proofs.step.advance.Goals as goal
 
@@ -27,10 +27,10 @@ fits : (c : After-trim-cut) → (c.trim-cut.result.hi ≤ wide) × (c.trim-cut.r
 fits c = places_fit c.requires c.live-n.ensures c.spread-more.ensures.1 c.trim-cut.ensures
 
 pub raised-requires : goal.raised-requires
-raised-requires c = (counted_bits (counted c.requires), (fits (goal.at.raised-requires c).After-trim-cut).1)
+raised-requires c = (counted c.requires, (fits (goal.at.raised-requires c).After-trim-cut).1)
 
-pub first_above-requires : goal.first_above-requires
-first_above-requires c = counted_bits (counted c.requires)
+pub first-requires : goal.first-requires
+first-requires c = counted c.requires
 
 pub overflow_cast-result : goal.overflow_cast-result
 unfolding wide
@@ -39,8 +39,7 @@ overflow_cast-result c = omega (arith, fits (goal.at.overflow_cast-result c).Aft
 pub overflow_add-result : goal.overflow_add-result
 unfolding wide horizon_limit
 overflow_add-result c =
-    let s = counted c.requires in
-    omega (arith, fits (goal.at.overflow_add-result c).After-trim-cut, first_is s c.first_above.ensures, s)
+    omega (arith, fits (goal.at.overflow_add-result c).After-trim-cut, counted c.requires)
 
 pub overflow_add-result-2 : goal.overflow_add-result-2
 unfolding wide horizon_limit
@@ -52,4 +51,4 @@ pub returns : goal.returns
 returns c =
     let s = c.requires in
     let spread = c.spread-more in
-    stepped s c.live-n.ensures spread.ensures.1 c.trim-cut.ensures c.raised.ensures (first_is (counted s) c.first_above.ensures) spread.ensures.0
+    stepped s c.live-n.ensures spread.ensures.1 c.trim-cut.ensures c.raised.ensures c.first.ensures spread.ensures.0
