@@ -15,9 +15,6 @@ sum-take-drop xs zero = omega arith
 sum-take-drop [] (suc i) = refl
 sum-take-drop (x ∷ xs) (suc i) = omega (arith, sum-take-drop xs i)
 
-pub sum-drop-suc : (xs : List ℕ) (i : ℕ) → sum (drop i xs) ≡ get_or xs i 0 + sum (drop (suc i) xs)
-sum-drop-suc xs i = omega (arith, sum-take-drop xs i, sum-take-drop xs (suc i), sum-take-suc xs i)
-
 -- a list in three
 pub sum_three : (xs : List ℕ) (i j : ℕ) → i ≤ j → sum (take i xs) + (sum (take (j - i) (drop i xs)) + sum (drop j xs)) ≡ sum xs
 sum_three xs i j h =

@@ -1,5 +1,5 @@
 -- What a turn of each loop of src/row.rt leaves to do.
-use Rattle.std.proofs.Common.{◌≡◌, ℕ, suc, Option, Some, None, map, ap, ◌∙◌, ◌+◌, ◌-◌, ◌<◌, ◌≤◌, true, List, [], ◌∷◌, ◌++◌, length, reverse, get_or, take, drop, set, add-zero, le_antisymm, lt_of_not-le, add-one, arith, length-set, take-append-drop, take_all, drop-cons, take-suc-set, drop-set-lt}
+use Rattle.std.proofs.Common.{◌≡◌, ℕ, suc, Option, Some, None, map, ap, ◌∙◌, ◌+◌, ◌-◌, ◌<◌, ◌≤◌, true, List, [], ◌∷◌, ◌++◌, length, reverse, get_or, take, drop, set, add-zero, le_antisymm, lt_of_not-le, add-one, arith, take_all, drop-cons, take-suc-set, drop-set-lt}
 use Rattle.std.proofs.lemmas.List.{drop_all, get_or_default, set-append_right, length-reverse}
 use Rattle.std.proofs.lemmas.Iterator.Consumers.{YieldsList-so_far, YieldsList-turn, YieldsList-end}
 use Rattle.std.proofs.lemmas.Iterator.{YieldsList}
@@ -7,7 +7,7 @@ use Rattle.std.specs.Iterator.{Yields}
 use lib.Seq.{append_snoc}
 use Rattle.walk.specs.Numbers.{sum, all_up_to}
 use Rattle.walk.specs.Mass.{mass_up, rounding}
-use Rattle.walk.specs.Row.{cells_by, new_masses, roundings, kept, dropped}
+use Rattle.walk.specs.Row.{cells_by, kept, dropped}
 use Rattle.walk.proofs.Lists.{sum-take-suc, sum-take-drop, sum-take-reverse, sum-drop_falls, all_cons}
 use Rattle.walk.proofs.Cuts.{Keeps, keeps, Drops, drops}
 
@@ -106,12 +106,16 @@ kept_back e over d cs h is = go (drops e over h (reverse cs)) (keeps e over h cs
         let n : d ≤ length cs = omega (arith, top.within, length-reverse cs) in
         let s : sum (take d (reverse cs)) ≡ sum (drop (length cs - d) cs) = sum-take-reverse cs d n in
         let k : ℕ = kept e over cs in
-        let fits : sum (drop (length cs - d) cs) + over ≤ e = omega (arith, s, rw (← is) at top.fits) in
-        (
+        let fits : sum (drop (length cs - d) cs) + over ≤ e = omega (arith, s, rw (← is) at top.fits) in (
           n,
           le_antisymm
-          (not_less (λ (q : k < length cs - d). omega (arith, keep.fits, sum-drop_falls cs k (length cs - suc d) (omega arith),
-          sum-take-reverse cs (suc d) (omega arith), (rw (← is) at top.most) (omega (arith, length-reverse cs)))))
-          (not_less (λ (q : length cs - d < k). omega (arith, keep.least (length cs - d) q))),
+              (not_less (λ (q : k < length cs - d). omega (
+                arith,
+                keep.fits,
+                sum-drop_falls cs k (length cs - suc d) (omega arith),
+                sum-take-reverse cs (suc d) (omega arith),
+                (rw (← is) at top.most) (omega (arith, length-reverse cs)),
+              )))
+              (not_less (λ (q : length cs - d < k). omega (arith, keep.least (length cs - d) q))),
           s,
         )

@@ -1,9 +1,9 @@
 -- A threshold's part, as `trim`, `advance` and `step` leave it.
-use Rattle.std.proofs.Common.{◌≡◌, ℕ, suc, ◌+◌, ◌-◌, ◌<◌, ◌≤◌, List, ◌++◌, length, take, drop, replicate, ℤ, sym, ap, ◌∙◌, arith, length-drop, take-append-drop, length-take-le, take_at, w32, to_z, of_z}
+use Rattle.std.proofs.Common.{◌≡◌, ℕ, ◌+◌, ◌-◌, ◌<◌, ◌≤◌, List, ◌++◌, length, take, drop, replicate, ℤ, sym, ap, ◌∙◌, arith, length-drop, take-append-drop, length-take-le, take_at, w32, to_z, of_z}
 use lib.Seq.{take-append-le, drop-append-le}
 use mir.ValLaws.{to_z-of_z}
 use Rattle.walk.specs.Numbers.{sum}
-use Rattle.walk.specs.Units.{wide, horizon_limit}
+use Rattle.walk.specs.Units.{wide}
 use Rattle.walk.specs.Mass.{mass_up}
 use Rattle.walk.specs.Walk.{below}
 use Rattle.walk.specs.Row.{Row, upper, new_masses, roundings, kept, dropped, cut, step_row}
@@ -15,7 +15,7 @@ use Rattle.walk.proofs.Cells.{cells_length, roundings_le}
 use Rattle.walk.proofs.Cuts.{keeps, drops, cut_order}
 use Rattle.walk.proofs.RowSteps.{keep, cells_full, apart, step_length, step_upper, step_sound, step_moves}
 use Rattle.walk.proofs.Boundaries.{above_below}
-use Rattle.walk.proofs.Signed.{back, below_fits}
+use Rattle.walk.proofs.Signed.{below_fits}
 use Rattle.walk.proofs.SoundnessLaws.{row_front}
 
 -- ---- trim

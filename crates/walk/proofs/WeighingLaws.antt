@@ -43,7 +43,7 @@ sum_small : (xs : List ℕ) (i : ℕ) → all_up_to mass_limit (take i xs) ≡ t
 unfolding mass_limit
 sum_small xs zero p = omega arith
 sum_small xs (suc i) p =
-    let h = and_true _ _ (sym (all_take-suc mass_limit xs i) ∙ p) in
+    let h : (all_up_to mass_limit (take i xs) ≡ true) × (le? (get_or xs i 0) mass_limit ≡ true) = and_true _ _ (sym (all_take-suc mass_limit xs i) ∙ p) in
     omega (arith, sum-take-suc xs i, sum_small xs i h.0, le?_sound _ _ h.1)
 
 pub weighs_next : (masses : List ℕ) (i : ℕ) (w r : Weighed) (x y : ℕ) → get_or masses i 0 ≡ x → Weighs masses i w

@@ -1,6 +1,5 @@
 -- The difference of the boundaries, less one, is the number of live counts.
-use Rattle.std.proofs.Common.{◌≡◌, suc, ◌-◌, ◌^◌, ◌<◌, pos, ◌-ℤ◌, nat_abs, ap, ◌∙◌, arith, w64, SFits, to_z, of_z, rules}
-use lib.Signed.{mag}
+use Rattle.std.proofs.Common.{◌≡◌, suc, ◌-◌, ◌^◌, ◌<◌, pos, ◌-ℤ◌, ap, ◌∙◌, arith, w64, to_z, of_z}
 use mir.ValLaws.{to_z-of_z}
 use Rattle.walk.specs.Record.{first_above}
 use Rattle.walk.proofs.Boundaries.{apart_below}

@@ -33,6 +33,6 @@ returns g c = λ xs h.
     let comes : YieldsList g.I.Iterator.next_gives (λ x. x.now) c.into_iter-mass-iterator.result xs =
     YieldsList-at c.into_iter-mass-iterator.ensures.into_iter_gives (record { runs = h }) in
     elim c.match-next.branch [
-      in-None w ↦ absorbed_all comes l.yielded l.yielded_by n c.args.spent v.counted v.is v.fits w.in-None.is
+      | in-None w ↦ absorbed_all comes l.yielded l.yielded_by n c.args.spent v.counted v.is v.fits w.in-None.is
       | in-Some+then-mass-e w ↦ absorbed_some comes l.yielded l.yielded_by n c.args.spent v.counted v.is v.fits w.in-Some.is w.if-mass-e.true
     ]

@@ -1,7 +1,7 @@
 -- `spread` leaves the cells in front, and `trim` cuts them where the definition does; the bounds are those of a row that may be stepped.
-use Rattle.std.proofs.Common.{◌≡◌, ◌≤◌, arith}
+use Rattle.std.proofs.Common.{◌≤◌, arith}
 use Rattle.walk.specs.Units.{wide, horizon_limit}
-use Rattle.walk.specs.Record.{first_above, row_of}
+use Rattle.walk.specs.Record.{row_of}
 use Rattle.walk.proofs.Parts.{order, ordered, counted, few_rounded, more, places_fit, stepped}
 use Rattle.walk.proofs.step.advance.Goals.{After-trim-cut}
 use Rattle.walk.proofs.step.advance.Goals as goal
