@@ -1,8 +1,10 @@
-// The plan's rules: refusals 1, 2, 14, 3, 4, 16, 5, 6 in this order, each over all entries before the next (rules 1.4, 8.2).
-ghost use Rattle.std.specs.Prelude.{◌≡◌, [], ◌∷◌, ℕ, suc, ◌≤◌, ◌<◌, length, get_or};
-ghost use Rattle.plan.specs.Places.{eq?, within, all_to, any_to};
-ghost use Rattle.refusals.specs.Refusals.{refusal_in};
+// The plan's rules: refusals 1, 2, 14, 3, 4, 16, 5, 6 in this order, each over all entries before the next (rules 1.4, 8.2). Places past a
+// count are not read.
+ghost use Rattle.std.specs.Prelude.{◌≡◌, ℕ, ◌≤◌, take};
+ghost use Rattle.walk.specs.Units.{allowance_limit};
+ghost use Rattle.plan.specs.Places.{within};
 ghost use Rattle.plan.specs.Plan.{count_limit, bucket_limit, counts_fit, left_at, right_at, rule2, rule14, rule3, rule4, rule16, permitted, bucket_fits, rule5, covered_above, rule6, plan_refusal};
+ghost use Rattle.refusals.specs.Refusals.{refusal_in};
 
 use crate::{
     BUCKET_LIMIT, COUNT_LIMIT, DELAY_LIMIT, LEAST_DIFFERENCE, POINT_LIMIT, Plan, THRESHOLD_LIMIT,
@@ -31,234 +33,158 @@ pub fn counts_fit(count: u32, buckets: u32) -> bool
     within(count, 1, MOST_THRESHOLDS) && within(buckets, 2, MOST_BUCKETS)
 }
 
-// Rule 2 of a plan with the first `count` of these thresholds, of at most ten: each in its range and above the one before. Judged after rule 1,
-// which keeps the places inside the array. The rules below take only the numbers that they judge: a plan by value is copied at each call.
-fn thresholds_rise(ts: &[u32; COUNT_LIMIT], count: usize) -> bool
-    requires { count ≤ count_limit }
-    ensures { (p : Plan) → p.count ≡ count → p.thresholds ≡ ts.now → result ≡ rule2 p }
+fn allowance_fits(allowance: u64) -> bool
+    ensures { result ≡ within 1 allowance_limit allowance }
 {
-    let mut before = 0u32;
-    for i in 0..count {
-        let t = ts[i];
-        if t <= before {
-            return false;
-        }
-        if THRESHOLD_LIMIT < t {
-            return false;
-        }
-        before = t;
-    }
-    true
-}
-
-// Rule 14 of a plan with the first `count` of these thresholds, of at most ten: every two neighbours differ by at least 100 millionths. Judged
-// after rules 1 and 2, so that there is a threshold, and each is above the one before.
-fn thresholds_apart(ts: &[u32; COUNT_LIMIT], count: usize) -> bool
-    requires { ((1 ≤ count) × (count ≤ count_limit)) × ((i : ℕ) → suc i < count → get_or ts.now i 0 < get_or ts.now (suc i) 0) }
-    ensures { (p : Plan) → p.count ≡ count → p.thresholds ≡ ts.now → result ≡ rule14 p }
-{
-    let pairs = count - 1;
-    for i in 0..pairs {
-        let before = ts[i];
-        let t = ts[i + 1];
-        if t - before < LEAST_DIFFERENCE {
-            return false;
-        }
-    }
-    true
-}
-
-// Rule 3 of a plan with the first `count` of these allowances, of at most ten: each in its range, below one half. Judged after rule 1.
-fn allowances_fit(xs: &[u64; COUNT_LIMIT], count: usize) -> bool
-    requires { count ≤ count_limit }
-    ensures { (p : Plan) → p.count ≡ count → p.allowances ≡ xs.now → result ≡ rule3 p }
-{
-    for i in 0..count {
-        let x = xs[i];
-        if x < 1 {
-            return false;
-        }
-        if ALLOWANCE_LIMIT < x {
-            return false;
-        }
-    }
-    true
-}
-
-// Rule 4 of a plan with this delay and this horizon: both in their ranges.
-fn times_fit(delay: u32, horizon: u32) -> bool
-    ensures { (p : Plan) → p.delay ≡ delay → p.horizon ≡ horizon → result ≡ rule4 p }
-{
-    within(delay, 1, DELAY_LIMIT) && within(horizon, 1, HORIZON_LIMIT)
-}
-
-// Rule 16 of a plan with this horizon and the first `points` of these points, of any number: at most eight, their steps strictly rising within 1 to
-// the horizon, their shares never falling and at most 1,000,000.
-fn points_fit<'a>(
-    points: u32,
-    horizon: u32,
-    steps: &'a [u32; POINT_LIMIT],
-    shares: &'a [u32; POINT_LIMIT],
-) -> bool
-    ensures { (p : Plan) → p.points ≡ points → p.horizon ≡ horizon → p.steps ≡ steps.now → p.shares ≡ shares.now → result ≡ rule16 p }
-{
-    if MOST_POINTS < points {
-        return false;
-    }
-    let count = points as usize;
-    let mut step = 0u32;
-    let mut share = 0u32;
-    for j in 0..count {
-        let next = steps[j];
-        let more = shares[j];
-        if next <= step {
-            return false;
-        }
-        if horizon < next {
-            return false;
-        }
-        if more < share {
-            return false;
-        }
-        if MILLION < more {
-            return false;
-        }
-        step = next;
-        share = more;
-    }
-    true
-}
-
-// Whether x is one of the first n numbers of a table.
-fn is_among(xs: &[u32], n: usize, x: u32) -> bool
-    requires { n ≤ length xs.now }
-    ensures { result ≡ any_to n (λ i. eq? x (get_or xs.now i 0)) }
-{
-    for i in 0..n {
-        if x == xs[i] {
-            return true;
-        }
-    }
-    false
-}
-
-// Whether an end is permitted in a plan with the first `count` of these thresholds, of at most ten: 0, 1,000,000 or a threshold.
-fn is_permitted(ts: &[u32; COUNT_LIMIT], count: usize, e: u32) -> bool
-    requires { count ≤ count_limit }
-    ensures { (p : Plan) → p.count ≡ count → p.thresholds ≡ ts.now → result ≡ permitted p e }
-{
-    if e == 0 {
-        return true;
-    }
-    if e == MILLION {
-        return true;
-    }
-    is_among(ts, count, e)
-}
-
-// Whether a bucket fits a plan with the first `count` of these thresholds, of at most ten: left end below right end, not the whole of 0 to
-// 1,000,000, and both ends permitted.
-fn bucket_fits(ts: &[u32; COUNT_LIMIT], count: usize, left: u32, right: u32) -> bool
-    requires { count ≤ count_limit }
-    ensures { (p : Plan) (j : ℕ) → p.count ≡ count → p.thresholds ≡ ts.now → left_at p j ≡ left → right_at p j ≡ right → result ≡ bucket_fits p j }
-{
-    if right <= left {
-        return false;
-    }
-    if left == 0 && right == MILLION {
-        return false;
-    }
-    is_permitted(ts, count, left) && is_permitted(ts, count, right)
-}
-
-// Rule 5 of a plan with the first `count` of these thresholds, of at most ten, and the first b of these buckets, of at most sixteen: each bucket
-// fits. Judged after rule 1.
-fn buckets_fit<'a>(
-    ts: &'a [u32; COUNT_LIMIT],
-    count: usize,
-    ls: &'a [u32; BUCKET_LIMIT],
-    rs: &'a [u32; BUCKET_LIMIT],
-    b: usize,
-) -> bool
-    requires { (count ≤ count_limit) × (b ≤ bucket_limit) }
-    ensures { (p : Plan) → p.count ≡ count → p.thresholds ≡ ts.now → p.buckets ≡ b → p.left ≡ ls.now → p.right ≡ rs.now → result ≡ rule5 p }
-{
-    for j in 0..b {
-        let left = ls[j];
-        let right = rs[j];
-        if !bucket_fits(ts, count, left, right) {
-            return false;
-        }
-    }
-    true
-}
-
-// Whether what lies just above e is covered by the first b of these buckets, of at most sixteen: e is at the top, or a bucket begins at or
-// below it and ends above it.
-fn covered_above<'a>(
-    ls: &'a [u32; BUCKET_LIMIT],
-    rs: &'a [u32; BUCKET_LIMIT],
-    b: usize,
-    e: u32,
-) -> bool
-    requires { b ≤ bucket_limit }
-    ensures { (p : Plan) → p.buckets ≡ b → p.left ≡ ls.now → p.right ≡ rs.now → result ≡ covered_above p e }
-{
-    if MILLION <= e {
-        return true;
-    }
-    for i in 0..b {
-        if ls[i] <= e && e < rs[i] {
-            return true;
-        }
-    }
-    false
-}
-
-// Rule 6 of a plan with the first b of these buckets, of at most sixteen, past 0: what lies just above each right end is covered.
-fn right_ends_covered<'a>(
-    ls: &'a [u32; BUCKET_LIMIT],
-    rs: &'a [u32; BUCKET_LIMIT],
-    b: usize,
-) -> bool
-    requires { b ≤ bucket_limit }
-    ensures { (p : Plan) → p.buckets ≡ b → p.left ≡ ls.now → p.right ≡ rs.now → result ≡ all_to b (λ j. covered_above p (right_at p j)) }
-{
-    for j in 0..b {
-        if !covered_above(ls, rs, b, rs[j]) {
-            return false;
-        }
-    }
-    true
-}
-
-// Rule 6 of a plan with the first b of these buckets, of at most sixteen: some bucket begins at 0, and past it nothing is left out.
-fn buckets_cover<'a>(
-    ls: &'a [u32; BUCKET_LIMIT],
-    rs: &'a [u32; BUCKET_LIMIT],
-    b: usize,
-) -> bool
-    requires { b ≤ bucket_limit }
-    ensures { (p : Plan) → p.buckets ≡ b → p.left ≡ ls.now → p.right ≡ rs.now → result ≡ rule6 p }
-{
-    is_among(ls, b, 0) && right_ends_covered(ls, rs, b)
+    1 <= allowance && allowance <= ALLOWANCE_LIMIT
 }
 
 impl Plan {
-    // Whether the plan keeps the rules: any plan may be handed in.
+    // The counted thresholds.
+    fn counted_thresholds(&self) -> &[u32]
+        requires { self.now.count ≤ count_limit }
+        ensures { result.now ≡ take self.now.count self.now.thresholds }
+    {
+        &self.thresholds[..self.count as usize]
+    }
+
+    // Rule 2: each threshold in its range and above the one before. Judged after rule 1, which keeps the places inside the array.
+    fn thresholds_rise(&self) -> bool
+        requires { self.now.count ≤ count_limit }
+        ensures { result ≡ rule2 self.now }
+    {
+        let mut before = 0;
+        for &t in self.counted_thresholds() {
+            if t <= before || THRESHOLD_LIMIT < t {
+                return false;
+            }
+            before = t;
+        }
+        true
+    }
+
+    // Rule 14: every two neighbours differ by at least 100 millionths. Judged after rule 1.
+    fn thresholds_apart(&self) -> bool
+        requires { self.now.count ≤ count_limit }
+        ensures { result ≡ rule14 self.now }
+    {
+        let Some((first, others)) = self.counted_thresholds().split_first() else {
+            return true;
+        };
+        let mut before = *first;
+        for &t in others {
+            if t.saturating_sub(before) < LEAST_DIFFERENCE {
+                return false;
+            }
+            before = t;
+        }
+        true
+    }
+
+    // Rule 3: each allowance in its range, below one half. Judged after rule 1.
+    fn allowances_fit(&self) -> bool
+        requires { self.now.count ≤ count_limit }
+        ensures { result ≡ rule3 self.now }
+    {
+        self.allowances[..self.count as usize]
+            .iter()
+            .all(|&allowance| allowance_fits(allowance))
+    }
+
+    // Rule 4: delay and horizon in their ranges.
+    fn times_fit(&self) -> bool
+        ensures { result ≡ rule4 self.now }
+    {
+        within(self.delay, 1, DELAY_LIMIT) && within(self.horizon, 1, HORIZON_LIMIT)
+    }
+
+    // Rule 16: at most eight points, their steps strictly rising within 1 to the horizon, their shares never falling and at most 1,000,000.
+    fn points_fit(&self) -> bool
+        ensures { result ≡ rule16 self.now }
+    {
+        if MOST_POINTS < self.points {
+            return false;
+        }
+        let count = self.points as usize;
+        let mut step = 0;
+        let mut share = 0;
+        for (&next, &more) in self.steps[..count].iter().zip(&self.shares[..count]) {
+            if next <= step || self.horizon < next || more < share || MILLION < more {
+                return false;
+            }
+            step = next;
+            share = more;
+        }
+        true
+    }
+
+    // An end is permitted: 0, 1,000,000 or a threshold. Judged after rule 1.
+    fn permits(&self, end: u32) -> bool
+        requires { self.now.count ≤ count_limit }
+        ensures { result ≡ permitted self.now end }
+    {
+        end == 0 || end == MILLION || self.counted_thresholds().contains(&end)
+    }
+
+    // A bucket fits: left end below right end, not the whole of 0 to 1,000,000, and both ends permitted.
+    fn bucket_fits(&self, left: u32, right: u32) -> bool
+        requires { self.now.count ≤ count_limit }
+        ensures { (j : ℕ) → left_at self.now j ≡ left → right_at self.now j ≡ right → result ≡ bucket_fits self.now j }
+    {
+        left < right
+            && !(left == 0 && right == MILLION)
+            && self.permits(left)
+            && self.permits(right)
+    }
+
+    // Rule 5: each bucket fits. Judged after rule 1.
+    fn buckets_fit(&self) -> bool
+        requires { (self.now.count ≤ count_limit) × (self.now.buckets ≤ bucket_limit) }
+        ensures { result ≡ rule5 self.now }
+    {
+        let b = self.buckets as usize;
+        for (&left, &right) in self.left[..b].iter().zip(&self.right[..b]) {
+            if !self.bucket_fits(left, right) {
+                return false;
+            }
+        }
+        true
+    }
+
+    // Whether what lies just above an end is covered: it is at the top, or a bucket begins at or below it and ends above it.
+    fn covers_above(&self, end: u32) -> bool
+        requires { self.now.buckets ≤ bucket_limit }
+        ensures { result ≡ covered_above self.now end }
+    {
+        let b = self.buckets as usize;
+        MILLION <= end
+            || self.left[..b]
+                .iter()
+                .zip(&self.right[..b])
+                .any(|(&left, &right)| left <= end && end < right)
+    }
+
+    // Rule 6: some bucket begins at 0, and what lies just above each right end is covered: past 0 nothing is left out. Judged after rule 1.
+    fn buckets_cover(&self) -> bool
+        requires { self.now.buckets ≤ bucket_limit }
+        ensures { result ≡ rule6 self.now }
+    {
+        let b = self.buckets as usize;
+        self.left[..b].contains(&0) && self.right[..b].iter().all(|&end| self.covers_above(end))
+    }
+
+    // The first rule that the plan breaks, if any: any plan may be handed in.
     pub fn judge(&self) -> Result<(), Refusal>
         ensures { refusal_in result ≡ plan_refusal self.now }
     {
-        let k = self.count as usize;
-        let b = self.buckets as usize;
         ensure(counts_fit(self.count, self.buckets), Refusal::Counts)?;
-        ensure(thresholds_rise(&self.thresholds, k), Refusal::Thresholds)?;
-        ensure(thresholds_apart(&self.thresholds, k), Refusal::TooClose)?;
-        ensure(allowances_fit(&self.allowances, k), Refusal::Allowances)?;
-        ensure(times_fit(self.delay, self.horizon), Refusal::Times)?;
-        ensure(points_fit(self.points, self.horizon, &self.steps, &self.shares), Refusal::Points)?;
-        ensure(buckets_fit(&self.thresholds, k, &self.left, &self.right, b), Refusal::Buckets)?;
-        ensure(buckets_cover(&self.left, &self.right, b), Refusal::Cover)
+        ensure(self.thresholds_rise(), Refusal::Thresholds)?;
+        ensure(self.thresholds_apart(), Refusal::TooClose)?;
+        ensure(self.allowances_fit(), Refusal::Allowances)?;
+        ensure(self.times_fit(), Refusal::Times)?;
+        ensure(self.points_fit(), Refusal::Points)?;
+        ensure(self.buckets_fit(), Refusal::Buckets)?;
+        ensure(self.buckets_cover(), Refusal::Cover)
     }
 }
 

@@ -1,12 +1,12 @@
--- The thresholds before place i are in their range and rise, and `before` is the last of them.
+-- The thresholds passed are in their range and rise, and `before` is the last of them.
 use mathlib.Core.Path.{◌≡◌}
 use mathlib.Core.Bool.{Bool, false, ◌&&◌}
-use Prim.Native.Nat.{ℕ, zero, suc, ◌-◌}
+use Prim.Native.Nat.{ℕ, zero, suc}
 use Rattle.plan.specs.Places.{within}
 use Rattle.plan.specs.Plan.{threshold_limit, threshold_at, above_before}
 use Rattle.plan.specs.declared.Plan.{Plan}
 use Rattle.plan.proofs.PlaceLaws.{Sought}
-use Rattle.plan.proofs.rules.thresholds_rise.Given as goal
+use Rattle.plan.proofs.Plan.thresholds_rise.Given as goal
 
 abbrev pub fits : Plan → ℕ → Bool
 fits p i = within 1 threshold_limit (threshold_at p i) && above_before p i
@@ -16,9 +16,8 @@ abbrev pub before_at : Plan → ℕ → ℕ
 before_at p zero = 0
 before_at p (suc i) = threshold_at p i
 
-abbrev pub invariant-loop-i : goal.invariant-loop-i
-invariant-loop-i l =
-    (p : Plan) → p.count ≡ l.count → p.thresholds ≡ l.ts → (l.before ≡ before_at p l.i) × Sought false (fits p) p.count l.i
-
-abbrev pub decreases-loop-i : goal.decreases-loop-i
-decreases-loop-i l = l.count - l.i
+abbrev pub invariant-loop-t : goal.invariant-loop-t
+invariant-loop-t l = record {
+  before_is : l.before ≡ before_at l.self l.t-index;
+  rising : Sought false (fits l.self) l.self.count l.t-index;
+}
