@@ -21,7 +21,7 @@ use Rattle.std.proofs.lemmas.Iterator.{zips}
 use Rattle.std.proofs.lemmas.List.Folds.{list_all_more, list_any_more}
 use Rattle.std.proofs.lemmas.Slice.Zip.{zip_turn, zip_end, length-zip, get_or-zip}
 use Rattle.plan.specs.Places.{all_to, any_to, over_to, join_to}
-use Rattle.plan.proofs.PlaceLaws.{any_cong}
+use Rattle.plan.proofs.PlaceLaws.{all_cong, any_cong}
 
 module _ {A : Type 0} where
   pub over-length : (k : ℕ) (f : ℕ → A → A) (xs : List A) → length (over_to k f xs) ≡ length xs
@@ -124,11 +124,20 @@ module _ (test : ℕ × ℕ → Bool) (xs ys : List ℕ) (n : ℕ) (h : n ≤ le
   pairs_long : length pairs ≡ n
   pairs_long = omega (arith, length-zip (take n xs) (take n ys), length-take-le n xs h, length-take-le n ys k)
 
+  pair_at : (i : ℕ) → i < n → get_or pairs i (0, 0) ≡ (get_or xs i 0, get_or ys i 0)
+  pair_at i l =
+      get_or-zip (take n xs) (take n ys) i (0, 0) (omega (arith, length-take-le n xs h)) (omega (arith, length-take-le n ys k))
+      ∙ ap₂ (λ x y. (x, y)) (get_or-take n xs i 0 l) (get_or-take n ys i 0 l)
+
+  pub all_paired : list_all test pairs ≡ all_to n (λ i. test (get_or xs i 0, get_or ys i 0))
+  all_paired =
+      rw (← take_all n pairs (omega (arith, pairs_long)))
+      (all_taken test pairs (0, 0) n (omega (arith, pairs_long)) ∙ all_cong n _ _ (λ i l. ap test (pair_at i l)))
+
   pub any_paired : list_any test pairs ≡ any_to n (λ i. test (get_or xs i 0, get_or ys i 0))
   any_paired =
       rw (← take_all n pairs (omega (arith, pairs_long)))
-      (any_taken test pairs (0, 0) n (omega (arith, pairs_long))
-      ∙ any_cong n _ _ (λ i l. ap test (get_or-zip (take n xs) (take n ys) i (0, 0) (omega (arith, length-take-le n xs h)) (omega (arith, length-take-le n ys k)) ∙ ap₂ (λ x y. (x, y)) (get_or-take n xs i 0 l) (get_or-take n ys i 0 l))))
+      (any_taken test pairs (0, 0) n (omega (arith, pairs_long)) ∙ any_cong n _ _ (λ i l. ap test (pair_at i l)))
 
 -- ---- a `for` over a `zip` of the first n entries of two lists, which has yielded ys and comes to r
 

@@ -1,10 +1,12 @@
--- A plan by its numbers and tables, and the portion of each allowance that may be spent, for inner contracts; no entry's contract cites this file.
-use Rattle.std.specs.Prelude.{Bool, true, false, List, ℕ, ◌+◌}
+-- A plan by its numbers and tables, a bucket by its ends, and the portion of each allowance that may be spent, for inner contracts; no entry's
+-- contract cites this file.
+use Rattle.std.specs.Prelude.{Bool, true, false, not, ◌&&◌, List, ℕ, ◌+◌}
+use Rattle.walk.specs.Numbers.{lt?}
 use Rattle.walk.specs.Units.{million}
 use Rattle.walk.specs.declared.Portion.{Portion}
 use Rattle.plan.specs.Places.{eq?}
 use Rattle.plan.specs.Points.{share_by}
-use Rattle.plan.specs.Plan.{step_at, share_at}
+use Rattle.plan.specs.Plan.{step_at, share_at, permitted}
 use Rattle.plan.specs.declared.Plan.{Plan}
 
 abbrev pub plan_with : ℕ → ℕ → ℕ → ℕ → ℕ → List ℕ → List ℕ → List ℕ → List ℕ → List ℕ → List ℕ → Plan
@@ -21,6 +23,10 @@ plan_with count buckets delay horizon points thresholds allowances left right st
   steps = steps;
   shares = shares;
 }
+
+-- `bucket_fits` of a bucket with these ends
+abbrev pub ends_fit : Plan → ℕ → ℕ → Bool
+ends_fit p left right = lt? left right && (not (eq? left 0 && eq? right million) && (permitted p left && permitted p right))
 
 -- n / (n + k) without points, the share in millionths with them
 abbrev pub portion_by : Bool → ℕ → ℕ → ℕ → Portion

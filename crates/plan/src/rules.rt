@@ -1,9 +1,10 @@
 // The plan's rules: refusals 1, 2, 14, 3, 4, 16, 5, 6 in this order, each over all entries before the next (rules 1.4, 8.2). Places past a
 // count are not read.
-ghost use Rattle.std.specs.Prelude.{◌≡◌, ℕ, ◌≤◌, take};
+ghost use Rattle.std.specs.Prelude.{◌≡◌, ◌≤◌, take};
 ghost use Rattle.walk.specs.Units.{allowance_limit};
 ghost use Rattle.plan.specs.Places.{within};
-ghost use Rattle.plan.specs.Plan.{count_limit, bucket_limit, counts_fit, left_at, right_at, rule2, rule14, rule3, rule4, rule16, permitted, bucket_fits, rule5, covered_above, rule6, plan_refusal};
+ghost use Rattle.plan.specs.Plan.{count_limit, bucket_limit, counts_fit, rule2, rule14, rule3, rule4, rule16, permitted, rule5, covered_above, rule6, plan_refusal};
+ghost use Rattle.plan.specs.Tables.{ends_fit};
 ghost use Rattle.refusals.specs.Refusals.{refusal_in};
 
 use crate::{
@@ -129,7 +130,7 @@ impl Plan {
     // A bucket fits: left end below right end, not the whole of 0 to 1,000,000, and both ends permitted.
     fn bucket_fits(&self, left: u32, right: u32) -> bool
         requires { self.now.count ≤ count_limit }
-        ensures { (j : ℕ) → left_at self.now j ≡ left → right_at self.now j ≡ right → result ≡ bucket_fits self.now j }
+        ensures { result ≡ ends_fit self.now left right }
     {
         left < right
             && !(left == 0 && right == MILLION)
@@ -142,13 +143,11 @@ impl Plan {
         requires { (self.now.count ≤ count_limit) × (self.now.buckets ≤ bucket_limit) }
         ensures { result ≡ rule5 self.now }
     {
-        let b = self.buckets as usize;
-        for (&left, &right) in self.left[..b].iter().zip(&self.right[..b]) {
-            if !self.bucket_fits(left, right) {
-                return false;
-            }
-        }
-        true
+        let count = self.buckets as usize;
+        self.left[..count]
+            .iter()
+            .zip(&self.right[..count])
+            .all(|(&left, &right)| self.bucket_fits(left, right))
     }
 
     // Whether what lies just above an end is covered: it is at the top, or a bucket begins at or below it and ends above it.

@@ -66,10 +66,9 @@ fn share_by<'a>(
 pub fn portion_by_delay(delay: u32, n: u32) -> Portion
     ensures { result ≡ record { numerator = n; denominator = n + delay } }
 {
-    let draws = n as u64;
     Portion {
-        numerator: draws,
-        denominator: draws + delay as u64,
+        numerator: n as u64,
+        denominator: n as u64 + delay as u64,
     }
 }
 

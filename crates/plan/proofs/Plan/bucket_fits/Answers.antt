@@ -1,5 +1,4 @@
 -- One part of rule 5 after the other.
-use Rattle.plan.specs.Plan.{bucket_fits}
 use borrow.Author.Rules.{rules}
 use borrow.Author.Tests.{tests}
 use Rattle.walk.specs.Numbers.{le?}
@@ -8,9 +7,9 @@ use Rattle.plan.specs.Places.{eq?}
 use Rattle.plan.proofs.Plan.bucket_fits.Goals as goal
 
 pub returns-then-permits : goal.returns-then-permits
-unfolding bucket_fits million eq? le?
-returns-then-permits c j l r = rw (l, r) (search (rules, tests))
+unfolding million eq? le?
+returns-then-permits c = search (rules, tests)
 
 pub returns-else-permits : goal.returns-else-permits
-unfolding bucket_fits million eq? le?
-returns-else-permits c j l r = rw (l, r) (search (rules, tests))
+unfolding million eq? le?
+returns-else-permits c = search (rules, tests)
