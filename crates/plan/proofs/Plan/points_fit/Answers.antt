@@ -1,5 +1,5 @@
 -- The points passed fit, and `step` and `share` are those of the last of them.
-use mathlib.Core.Path.{◌≡◌, refl}
+use mathlib.Core.Path.{◌≡◌}
 use mathlib.Core.Bool.{true, false}
 use Prim.Native.Nat.{ℕ, zero, suc, ◌≤◌, ◌<◌}
 use native.Mathlib.Numerals.{add-one}
@@ -11,7 +11,7 @@ use Rattle.walk.specs.Units.{million}
 use Rattle.walk.proofs.Tests.{le?_complete, le?_fails}
 use Rattle.plan.specs.Plan.{point_limit, step_at, share_at, point_fits}
 use Rattle.plan.specs.declared.Plan.{Plan}
-use Rattle.plan.proofs.PlaceLaws.{fails_by, sought_none, sought_next, sought_here, sought_nowhere}
+use Rattle.plan.proofs.PlaceLaws.{fails_by, sought_next, sought_here, sought_nowhere}
 use Rattle.plan.proofs.PlaceLists.{pair_here, pairs_end}
 use Rattle.plan.proofs.AcceptedLaws.{PointFits, point_says}
 use Rattle.plan.proofs.Plan.points_fit.Invariants.{step_before, share_before}
@@ -33,9 +33,6 @@ unfit p j f = fails_by (point_fits p j) (point_says p j) (λ h. let r = rises p 
 
 pub returns-then-self-gt-MOST_POINTS : goal.returns-then-self-gt-MOST_POINTS
 returns-then-self-gt-MOST_POINTS c = rw (le?_fails c.args.self.now.points point_limit c.if-self-gt-MOST_POINTS.true)
-
-pub loop-next-init : goal.loop-next-init
-loop-next-init c = record { step_is = refl; share-is = refl; fit = sought_none false _ }
 
 -- the point whose turn it is
 here : (c : In-Some) → let p = c.args.self.now in let j = length c.loop-next.yielded in
@@ -86,5 +83,8 @@ returns c =
     let l = c.loop-next in
     rw (le?_complete p.points point_limit c.if-self-gt-MOST_POINTS.false)
     (sought_nowhere false _ l.invariant.fit
-    (omega (arith, pairs_end p.steps p.shares p.points l.yielded c.into_iter-next-iterator.result l.next-iterator c.next.new.self (search rules) (search rules) l.yielded_by
-    c.next.ensures.steps (omega arith) (omega arith) c.in-None.is)))
+    (omega (
+      arith,
+      pairs_end p.steps p.shares p.points l.yielded c.into_iter-next-iterator.result l.next-iterator c.next.new.self (search rules) (search rules) l.yielded_by
+          c.next.ensures.steps (omega arith) (omega arith) c.in-None.is,
+    )))

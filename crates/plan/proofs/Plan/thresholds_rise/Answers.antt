@@ -1,5 +1,5 @@
 -- The thresholds passed are in their range and rise, and `before` is the last of them.
-use mathlib.Core.Path.{◌≡◌, refl}
+use mathlib.Core.Path.{◌≡◌}
 use mathlib.Core.Bool.{true, false}
 use Prim.Native.Nat.{ℕ, zero, suc, ◌≤◌, ◌<◌}
 use native.Mathlib.Numerals.{add-one}
@@ -8,7 +8,7 @@ use Rattle.walk.proofs.Tests.{le?_complete, le?_fails}
 use Rattle.plan.specs.Places.{within}
 use Rattle.plan.specs.Plan.{threshold_limit, threshold_at, above_before, rule2}
 use Rattle.plan.specs.declared.Plan.{Plan}
-use Rattle.plan.proofs.PlaceLaws.{and_fails, within_reads, within_low, within_high, sought_none, sought_next, sought_here, sought_nowhere}
+use Rattle.plan.proofs.PlaceLaws.{and_fails, within_reads, within_low, within_high, sought_next, sought_here, sought_nowhere}
 use Rattle.plan.proofs.PlaceLists.{taken_at, taken_all}
 use Rattle.plan.proofs.Plan.thresholds_rise.Invariants.{fits, before_at}
 use Rattle.plan.proofs.Plan.thresholds_rise.Goals.{then-t-before-via-then-t-before, then-t-before-via-else-t-before+then-t-gt-THRESHOLD_LIMIT}
@@ -27,9 +27,6 @@ fit : (p : Plan) (i : ℕ) → before_at p i < threshold_at p i → threshold_at
 unfolding above_before
 fit p zero h k = rw ((within_reads 1 threshold_limit (threshold_at p 0)).1 (h, k))
 fit p (suc i) h k = rw ((within_reads 1 threshold_limit (threshold_at p (suc i))).1 (omega arith, k)) (le?_complete (suc (threshold_at p i)) (threshold_at p (suc i)) h)
-
-pub loop-t-init : goal.loop-t-init
-loop-t-init c = record { before_is = refl; rising = sought_none false _ }
 
 pub returns-then-t-before : goal.returns-then-t-before
 unfolding rule2
