@@ -12,9 +12,9 @@ use Rattle.std.proofs.lemmas.Result.{err_from_is_err_and}
 use Rattle.walk.specs.Numbers.{le?}
 use Rattle.walk.proofs.Tests.{le?_complete}
 use Rattle.plan.specs.Places.{eq?}
-use Rattle.refusals.specs.Refusals.{number_of, unless, first_refusal}
+use Rattle.refusals.specs.Refusals.{number_of, refusal_in, unless, first_refusal}
 use Rattle.refusals.specs.declared.Refusal.{Refusal}
-use Rattle.refusals.proofs.RefusalLaws.{number_is}
+use Rattle.refusals.proofs.RefusalLaws.{number_is, handed_on}
 use Rattle.plan.specs.Plan.{counts_fit, plan_refusal}
 use Rattle.plan.specs.declared.Plan.{Plan}
 use Rattle.plan.proofs.PlaceLaws.{both, le_reads, eq?_fails, eq_reads, first_some, first_one, same_number, none_both, none_says, last_says, number_absent, number_here, number-after}
@@ -24,6 +24,11 @@ use Rattle.stored_plan.specs.Form.{header_size, threshold_offset_field, bucket_o
 use Rattle.stored_plan.specs.Reading.{count_in, buckets_in, plan_in, offsets_fit, length_fits, form_refusal, read_refusal, no_plan, decoded, read_as}
 use Rattle.stored_plan.specs.Writing.{write_refusal, written, bytes_after}
 use Rattle.stored_plan.proofs.FormLaws.{longest}
+
+-- where `?` hands on a refusal, it is the first of those that were still to be judged
+pub stopped : {A : Type 0} (r : Result A Refusal) (d : Refusal) {n : ℕ} (rest : List ℕ) → IsErrAnd r (λ f. f ≡ d) → number_of d ≡ n
+    → refusal_in r ≡ first_refusal (n ∷ rest)
+stopped r d rest h e = rw (← e) (handed_on r d h (sym (first_some (number_of d) rest (λ z. omega (arith, number_is d)))))
 
 -- ---- a reading
 

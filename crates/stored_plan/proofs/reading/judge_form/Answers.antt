@@ -3,9 +3,10 @@ use mathlib.Core.Path.{◌≡◌, sym, ◌∙◌}
 use mathlib.Core.Bool.{true}
 use Rattle.plan.specs.Places.{eq?}
 use Rattle.plan.specs.Plan.{counts_fit}
-use Rattle.refusals.proofs.RefusalLaws.{kept, broken, handed_on}
+use Rattle.refusals.proofs.RefusalLaws.{kept}
 use Rattle.plan.proofs.PlaceLaws.{first_one}
 use Rattle.stored_plan.specs.Reading.{count_in, buckets_in, length_fits, form_refusal}
+use Rattle.stored_plan.proofs.Refusals.{stopped}
 use Rattle.stored_plan.proofs.reading.judge_form.Goals.{After-ensure, In_ok-ensure, In_ok-ensure-2}
 use Rattle.stored_plan.proofs.reading.judge_form.Goals as goal
 
@@ -20,14 +21,14 @@ passed_counts c = kept (counted (goal.at.In_ok-ensure c).After-ensure) _ c.in_ok
 pub returns-in_err-ensure : goal.returns-in_err-ensure
 unfolding form_refusal
 returns-in_err-ensure c =
-    let b = broken (counted (goal.at.returns-in_err-ensure c).After-ensure) _ c.in_err-ensure.field-0.0 c.in_err-ensure.ensures in
-    rw (b.0) (handed_on _ _ c.from_residual.ensures.1 b.1)
+    let counts = counted (goal.at.returns-in_err-ensure c).After-ensure in
+    stopped _ _ _ c.from_residual.ensures.1 (rw counts at c.in_err-ensure.ensures)
 
 pub returns-in_err-ensure-2 : goal.returns-in_err-ensure-2
 unfolding form_refusal
 returns-in_err-ensure-2 c =
-    let b = broken c.offsets_fit.ensures _ c.in_err-ensure-2.field-0.0 c.in_err-ensure-2.ensures in
-    rw (passed_counts (goal.at.returns-in_err-ensure-2 c).In_ok-ensure, b.0) (handed_on _ _ c.from_residual-in_err-ensure-2.ensures.1 b.1)
+    let offsets = rw c.offsets_fit.ensures at c.in_err-ensure-2.ensures in
+    rw (passed_counts (goal.at.returns-in_err-ensure-2 c).In_ok-ensure) (stopped _ _ _ c.from_residual-in_err-ensure-2.ensures.1 offsets)
 
 pub returns : goal.returns
 unfolding form_refusal length_fits count_in buckets_in eq?
