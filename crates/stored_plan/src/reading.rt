@@ -52,8 +52,8 @@ fn table_in<const PLACES: usize>(
     ensures { result ≡ filled count (column 4 at stride bytes.now) (replicate PLACES 0) }
 {
     let mut table = [0u32; PLACES];
-    for i in 0..count {
-        table[i] = read_u32(bytes, at + stride * i);
+    for (i, place) in table[..count].iter_mut().enumerate() {
+        *place = read_u32(bytes, at + stride * i);
     }
     table
 }
