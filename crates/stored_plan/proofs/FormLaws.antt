@@ -1,9 +1,12 @@
 -- Lengths of the parts of a stored form, and the parts put one behind the other (specs/Form).
 use mathlib.Core.Path.{◌≡◌, ap, ◌∙◌}
 use mathlib.Core.List.{List, ◌++◌, append_assoc}
-use Prim.Native.Nat.{ℕ, ◌+◌, ◌*◌, ◌≤◌}
+use Prim.Native.Nat.{ℕ, ◌+◌, ◌*◌, ◌≤◌, ◌<◌}
 use native.Mathlib.Omega.{arith}
-use lib.ListN.{length, drop, get_or, length-append}
+use lib.ListN.{length, take, drop, get_or, length-append}
+use lib.Seq.{get_or-take}
+use Rattle.plan.specs.Places.{join_to}
+use Rattle.plan.proofs.PlaceLists.{join_cong}
 use Rattle.plan.specs.declared.Plan.{Plan}
 use Rattle.plan.proofs.AcceptedLaws.{Counted}
 use Rattle.little.specs.Little.{to_le, put_at}
@@ -16,6 +19,12 @@ use Rattle.little.proofs.EntryLaws.{join_size}
 -- entries of two numbers
 pub pair-length : (m n : ℕ) (xs ys : List ℕ) (i : ℕ) → length (pair m n xs ys i) ≡ m + n
 pair-length m n xs ys i = rw (length-append (to_le m (get_or xs i 0)) (to_le n (get_or ys i 0)), to_length m (get_or xs i 0), to_length n (get_or ys i 0))
+
+-- the entries of the first k places of two tables, of which code may have copied the second
+pub counted_entries : (m n k : ℕ) (xs ys zs : List ℕ) → ((i : ℕ) → i < k → get_or zs i 0 ≡ get_or ys i 0)
+    → join_to k (pair m n (take k xs) (take k zs)) ≡ join_to k (pair m n xs ys)
+counted_entries m n k xs ys zs e =
+    join_cong k (pair m n (take k xs) (take k zs)) (pair m n xs ys) (λ i l. rw (get_or-take k xs i 0 l, get_or-take k zs i 0 l, e i l))
 
 pub header_fits_lem : (count buckets : ℕ) → header_size ≤ form_size count buckets
 unfolding form_size bucket_offset

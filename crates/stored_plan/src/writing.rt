@@ -1,16 +1,14 @@
 // Writing a plan into lent bytes (rules 2.3).
-ghost use Rattle.std.specs.Prelude.{◌≡◌, List, ℕ, ◌≤◌, length};
+ghost use Rattle.std.specs.Prelude.{◌≡◌, List, ℕ, ◌+◌, ◌*◌, ◌≤◌, length};
 ghost use Rattle.refusals.specs.Refusals.{refusal_in};
 ghost use Rattle.plan.specs.Plan.{count_limit, bucket_limit};
+ghost use Rattle.plan.specs.Places.{join_to};
 ghost use Rattle.little.specs.Little.{put_at};
-ghost use Rattle.stored_plan.specs.Form.{header_size, bucket_offset, form_size, header, threshold_entries, bucket_entries};
+ghost use Rattle.stored_plan.specs.Form.{header_size, bucket_offset, form_size, pair, header, threshold_entries, bucket_entries};
 ghost use Rattle.stored_plan.specs.Writing.{write_refusal, written, bytes_after, written_as};
 
 use crate::HEADER_SIZE;
-use crate::form::{
-    BUCKET_ENTRY_SIZE, COUNT_FIELD, DELAY_FIELD, THRESHOLD_ENTRY_SIZE, THRESHOLD_OFFSET_FIELD,
-    bucket_offset, form_size,
-};
+use crate::form::{COUNT_FIELD, DELAY_FIELD, THRESHOLD_OFFSET_FIELD, bucket_offset, form_size};
 use little::numbers::write_two;
 use plan::Plan;
 use refusals::{Refusal, ensure};
@@ -26,16 +24,29 @@ fn write_header(bytes: &mut [u8], p: &Plan)
     write_two(bytes, DELAY_FIELD, 4, p.delay, 4, p.horizon as u64);
 }
 
+// An entry for each two numbers at one place, the first of four bytes and the second of `width`, one behind the other from an offset on.
+fn write_entries(bytes: &mut [u8], at: usize, first: &[u32], width: usize, second: &[u64])
+    requires { (length first.now ≡ length second.now) × (at + (4 + width) * length first.now ≤ length bytes.old) }
+    ensures { bytes.new ≡ put_at at (join_to (length first.now) (pair 4 width first.now second.now)) bytes.old }
+{
+    for (i, (&v, &w)) in first.iter().zip(second).enumerate() {
+        write_two(bytes, at + (4 + width) * i, 4, v, width, w);
+    }
+}
+
 // An entry for each counted threshold, with its allowance.
 fn write_thresholds(bytes: &mut [u8], p: &Plan)
     requires { (p.now.count ≤ count_limit) × (bucket_offset p.now.count ≤ length bytes.old) }
     ensures { bytes.new ≡ put_at header_size (threshold_entries p.now) bytes.old }
 {
     let k = p.count as usize;
-    for i in 0..k {
-        let at = HEADER_SIZE + THRESHOLD_ENTRY_SIZE * i;
-        write_two(bytes, at, 4, p.thresholds[i], 8, p.allowances[i]);
-    }
+    write_entries(
+        bytes,
+        HEADER_SIZE,
+        &p.thresholds[..k],
+        8,
+        &p.allowances[..k],
+    );
 }
 
 // An entry for each counted bucket.
@@ -44,17 +55,8 @@ fn write_buckets(bytes: &mut [u8], p: &Plan)
     ensures { bytes.new ≡ put_at (bucket_offset p.now.count) (bucket_entries p.now) bytes.old }
 {
     let b = p.buckets as usize;
-    let at = bucket_offset(p.count);
-    for j in 0..b {
-        write_two(
-            bytes,
-            at + BUCKET_ENTRY_SIZE * j,
-            4,
-            p.left[j],
-            4,
-            p.right[j] as u64,
-        );
-    }
+    let right = p.right.map(u64::from);
+    write_entries(bytes, bucket_offset(p.count), &p.left[..b], 4, &right[..b]);
 }
 
 // Whether a plan may be written into so many bytes: it keeps its rules, has no points, of which the form has none, and fits.

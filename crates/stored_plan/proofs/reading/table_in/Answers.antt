@@ -5,7 +5,7 @@ use Prim.Native.Nat.{ℕ, zero, suc}
 use native.Mathlib.Omega.{arith}
 use lib.ListN.{take, drop, replicate, length-take, length-replicate}
 use Rattle.plan.specs.Places.{over_to}
-use Rattle.little.specs.Little.{column, filled}
+use Rattle.little.specs.Little.{filled}
 use Rattle.little.proofs.FilledLaws.{fill_none, fill_next, fill_all}
 use Rattle.stored_plan.proofs.reading.table_in.Goals as goal
 

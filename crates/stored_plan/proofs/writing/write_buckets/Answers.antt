@@ -1,39 +1,27 @@
--- The entries before place j are put.
+-- The counted places of both tables are the entries.
+use mathlib.Core.Path.{◌≡◌}
+use Prim.Native.Nat.{ℕ, ◌<◌}
 use native.Mathlib.Omega.{arith}
-use borrow.Author.Rules.{rules}
-use Rattle.stored_plan.specs.Form.{pair, bucket_entry_size, form_size, bucket_entries}
-use Rattle.little.proofs.EntryLaws.{put_start, put_next, put_all}
-use Rattle.stored_plan.proofs.FormLaws.{pair-length}
+use lib.ListN.{length, take, get_or}
+use lib.Seq.{length-take-le}
+use Rattle.stored_plan.specs.Form.{form_size, bucket_entries}
+use Rattle.stored_plan.proofs.FormLaws.{counted_entries}
 use Rattle.stored_plan.proofs.writing.write_buckets.Goals as goal
 
-pub loop-j-init : goal.loop-j-init
-loop-j-init c =
-    let at = c.bucket_offset-at in
-    let a = c.args in
-    put_start (pair 4 4 a.p.now.left a.p.now.right) bucket_entry_size (pair-length 4 4 a.p.now.left a.p.now.right) at.result a.p.now.buckets a.bytes.now
-
-pub overflow_add-at : goal.overflow_add-at
+pub write_entries-requires : goal.write_entries-requires
 unfolding form_size
-overflow_add-at c = search rules
-
-pub write_two-requires : goal.write_two-requires
-unfolding form_size
-write_two-requires c = search rules
-
-pub loop-j-preserved : goal.loop-j-preserved
-unfolding form_size
-loop-j-preserved c =
-    let l = c.loop-j in
-    let at = c.bucket_offset-at in
-    let a = c.args in
-    let next = put_next (pair 4 4 a.p.now.left a.p.now.right) bucket_entry_size (pair-length 4 4 a.p.now.left a.p.now.right) at.result a.p.now.buckets a.bytes.now l.j l.bytes _ l.invariant in
-    next c.loop-j-test.true (search rules) c.write_two.ensures (omega arith)
+write_entries-requires c =
+    let p = c.args.p.now in
+    let b = p.buckets in
+    let many : length (take b p.left) ≡ b = length-take-le b p.left (omega arith) in
+    let also : length (take b c.map-right.result) ≡ b = length-take-le b c.map-right.result (omega (arith, c.map-right.ensures.items.long)) in
+    (omega arith, omega arith)
 
 pub returns : goal.returns
 unfolding bucket_entries
 returns c =
-    let l = c.loop-j in
-    let at = c.bucket_offset-at in
-    let a = c.args in
-    let put = put_all (pair 4 4 a.p.now.left a.p.now.right) bucket_entry_size (pair-length 4 4 a.p.now.left a.p.now.right) at.result a.p.now.buckets a.bytes.now in
-    rw (← at.ensures) (put l.j l.bytes l.invariant (omega arith))
+    let p = c.args.p.now in
+    let b = p.buckets in
+    let many : length (take b p.left) ≡ b = length-take-le b p.left (omega arith) in
+    let same : (j : ℕ) → j < b → get_or c.map-right.result j 0 ≡ get_or p.right j 0 = λ j l. let called = c.map-right.ensures.items.at j 0 0 (omega arith) in cc in
+    rw (c.bucket_offset.ensures, many, counted_entries 4 4 b p.left p.right c.map-right.result same) at c.write_entries.ensures

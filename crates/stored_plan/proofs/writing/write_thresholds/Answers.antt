@@ -1,31 +1,24 @@
--- The entries before place i are put.
+-- The counted places of both tables are the entries.
+use mathlib.Core.Path.{◌≡◌, refl}
 use native.Mathlib.Omega.{arith}
-use borrow.Author.Rules.{rules}
-use Rattle.stored_plan.specs.Form.{pair, threshold_entry_size, header_size, bucket_offset, threshold_entries}
-use Rattle.little.proofs.EntryLaws.{put_start, put_next, put_all}
-use Rattle.stored_plan.proofs.FormLaws.{pair-length}
+use lib.ListN.{length, take}
+use lib.Seq.{length-take-le}
+use Rattle.stored_plan.specs.Form.{bucket_offset, threshold_entries}
+use Rattle.stored_plan.proofs.FormLaws.{counted_entries}
 use Rattle.stored_plan.proofs.writing.write_thresholds.Goals as goal
 
-pub loop-i-init : goal.loop-i-init
-loop-i-init c =
-    let a = c.args in
-    put_start (pair 4 8 a.p.now.thresholds a.p.now.allowances) threshold_entry_size (pair-length 4 8 a.p.now.thresholds a.p.now.allowances) header_size a.p.now.count a.bytes.now
-
-pub write_two-requires : goal.write_two-requires
+pub write_entries-requires : goal.write_entries-requires
 unfolding bucket_offset
-write_two-requires c = search rules
-
-pub loop-i-preserved : goal.loop-i-preserved
-unfolding bucket_offset
-loop-i-preserved c =
-    let l = c.loop-i in
-    let a = c.args in
-    let next = put_next (pair 4 8 a.p.now.thresholds a.p.now.allowances) threshold_entry_size (pair-length 4 8 a.p.now.thresholds a.p.now.allowances) header_size a.p.now.count a.bytes.now l.i l.bytes _ l.invariant in
-    next c.loop-i-test.true (search rules) c.write_two.ensures (omega arith)
+write_entries-requires c =
+    let p = c.args.p.now in
+    let many : length (take p.count p.thresholds) ≡ p.count = length-take-le p.count p.thresholds (omega arith) in
+    let also : length (take p.count p.allowances) ≡ p.count = length-take-le p.count p.allowances (omega arith) in
+    (omega arith, omega arith)
 
 pub returns : goal.returns
 unfolding threshold_entries
 returns c =
-    let l = c.loop-i in
-    let a = c.args in
-    put_all (pair 4 8 a.p.now.thresholds a.p.now.allowances) threshold_entry_size (pair-length 4 8 a.p.now.thresholds a.p.now.allowances) header_size a.p.now.count a.bytes.now l.i l.bytes l.invariant (omega arith)
+    let p = c.args.p.now in
+    let k = p.count in
+    let many : length (take k p.thresholds) ≡ k = length-take-le k p.thresholds (omega arith) in
+    rw (many, counted_entries 4 8 k p.thresholds p.allowances p.allowances (λ i l. refl)) at c.write_entries.ensures
