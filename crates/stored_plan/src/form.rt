@@ -27,6 +27,7 @@ pub(crate) const BUCKET_ENTRY_SIZE: usize = 8;
 pub(crate) const RIGHT_FIELD: usize = 4;
 
 // The offset of the buckets behind so many thresholds.
+#[tactic(auto, unfolding(crate::specs::Form::bucket_offset))]
 pub(crate) fn bucket_offset(count: u32) -> usize
     ensures { result ≡ bucket_offset count }
 {
@@ -34,6 +35,7 @@ pub(crate) fn bucket_offset(count: u32) -> usize
 }
 
 // The length of a form with so many thresholds and buckets.
+#[tactic(auto, unfolding(crate::specs::Form::form_size, crate::specs::Form::bucket_offset))]
 pub(crate) fn form_size(count: u32, buckets: u32) -> usize
     ensures { result ≡ form_size count buckets }
 {

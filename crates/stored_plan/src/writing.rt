@@ -18,10 +18,10 @@ fn write_header(bytes: &mut [u8], p: &Plan)
     requires { header_size ≤ length bytes.old }
     ensures { bytes.new ≡ put_at 0 (header p.now) bytes.old }
 {
-    write_two(bytes, COUNT_FIELD, 2, p.count, 2, p.buckets as u64);
+    write_two(bytes, COUNT_FIELD, 2, p.count, 2, u64::from(p.buckets));
     let at = bucket_offset(p.count) as u64;
     write_two(bytes, THRESHOLD_OFFSET_FIELD, 2, HEADER_SIZE as u32, 2, at);
-    write_two(bytes, DELAY_FIELD, 4, p.delay, 4, p.horizon as u64);
+    write_two(bytes, DELAY_FIELD, 4, p.delay, 4, u64::from(p.horizon));
 }
 
 // An entry for each two numbers at one place, the first of four bytes and the second of `width`, one behind the other from an offset on.

@@ -16,9 +16,9 @@ returns c =
     let counts = to_le 2 a.p.now.count ++ to_le 2 a.p.now.buckets in
     let offsets = to_le 2 header_size ++ to_le 2 at.result in
     let times = to_le 4 a.p.now.delay ++ to_le 4 a.p.now.horizon in
-    let one = c.write_two.ensures in
+    let one = rw c.from.ensures at c.write_two.ensures in
     let two = c.write_two-2.ensures in
-    let three = c.write_two-3.ensures in
+    let three = rw c.from-2.ensures at c.write_two-3.ensures in
     let front = then 0 counts offsets a.bytes.now _ _ 4 one two (omega arith) (simp (length-append, to_length)) in
     let whole = then 0 (counts ++ offsets) times a.bytes.now _ _ 8 front three (omega arith) (simp (length-append, to_length)) in
     rw (← at.ensures) (simp append_assoc at whole)
