@@ -1,5 +1,5 @@
 -- The form of a beginning, and calls on plan bytes (specs/Calls).
-use mathlib.Core.Path.{◌≡◌, refl, sym, ap, subst, ◌∙◌}
+use mathlib.Core.Path.{◌≡◌, refl, sym, ap, ◌∙◌}
 use mathlib.Core.List.{List, [], ◌∷◌, ◌++◌}
 use Prim.Native.Nat.{ℕ, zero, suc, ◌+◌, ◌*◌, ◌≤◌, ◌<◌}
 use native.Mathlib.Omega.{arith}
@@ -8,7 +8,7 @@ use Rattle.walk.specs.Units.{M, wide}
 use Rattle.walk.specs.Walk.{below}
 use Rattle.walk.specs.Row.{start_row}
 use Rattle.walk.specs.Record.{record_of, padded, start_walked, start_part}
-use Rattle.walk.proofs.Tests.{le?_complete, le?_fails}
+use Rattle.walk.proofs.Tests.{le?_complete}
 use Rattle.walk.proofs.SoundnessLaws.{padded-length}
 use Rattle.plan.specs.Places.{join_to}
 use Rattle.plan.specs.Plan.{count_limit, plan_refusal}
@@ -24,12 +24,19 @@ use Rattle.walk.specs.declared.Walked.{Walked}
 use Rattle.bucket_test.proofs.PartLaws.{words_say, join_part}
 use Rattle.bucket_test.proofs.DrawingLaws.{begun_0}
 use Rattle.little.specs.Little.{to_le, put_at}
-use Rattle.stored_plan.specs.Reading.{decoded}
-use Rattle.stored_plan.specs.Inner.{Into}
-use Rattle.stored_plan.specs.declared.Read.{Read}
+use Rattle.stored_plan.specs.Reading.{decoded, read_as}
 use Rattle.saved_test.specs.Form.{mass_size, record_offset, form_size, form_limit, counts_between, live_count, masses_to, mass_bytes, saved_size, saved_header, record_entries, mass_entries}
 use Rattle.saved_test.proofs.WritingLaws.{form_put}
-use Rattle.calls.specs.Calls.{answer_number, own_words, begun_on, drawn_on, called_begin, called_draw}
+use Rattle.calls.specs.Calls.{own_words, begun_on, drawn_on, called_begin, called_draw}
+use Rattle.calls.specs.Inner.{Hands}
+use Rattle.calls.proofs.CallLaws.{hands_refusal, hands_answer}
+use Rattle.std.specs.Prelude.{Result, Ok, Err, IsErrAnd, false}
+use Rattle.refusals.specs.Refusals.{number_of}
+use Rattle.refusals.specs.declared.Refusal.{Refusal}
+use Rattle.refusals.proofs.RefusalLaws.{number_is}
+use Rattle.plan.proofs.PlaceLaws.{first_some}
+use Rattle.bucket_test.specs.declared.Answer.{Answer}
+use Rattle.walk.specs.Numbers.{le?}
 use Rattle.calls.proofs.PlanRead.{plan-read}
 
 -- one mass for each threshold, the whole
@@ -82,61 +89,43 @@ module _ (p : Plan) (good : plan_refusal p ≡ 0) where
   unfolding wide
   live_few i l = rw (record_start i l, start_live) (omega arith)
 
-  abbrev Begins : List ℕ → ℕ → List ℕ → Type 0
-  Begins lent r after = (r ≡ (begun_on 0 p lent).number) × (after ≡ (begun_on 0 p lent).bytes)
+  pub begins_12 : (lent : List ℕ) → le? (saved_size p start_state) (length lent) ≡ false → (r : Refusal) → number_of r ≡ 12
+      → (x : Result Answer Refusal) → IsErrAnd x (λ f. f ≡ r) → Hands (begun_on 0 p lent) x lent
+  begins_12 lent h r is x e = rw (begun_is, h) (hands_refusal p (record { answer = answer_of p start_state; state = start_state; words = start_words p }) lent 12 r is x e)
 
-  pub begins_12 : (lent : List ℕ) → length lent < saved_size p start_state → Begins lent 12 lent
-  begins_12 lent h = rw (begun_is, le?_fails (saved_size p start_state) (length lent) h) (refl, refl)
-
-  pub begins_form : (lent : List ℕ) → saved_size p start_state ≤ length lent → (r : ℕ) → r ≡ answer_number (answer_of p start_state) → (b₁ b₂ : List ℕ)
+  pub begins_form : (lent : List ℕ) → saved_size p start_state ≤ length lent → (a : Answer) → a ≡ answer_of p start_state → (b₁ b₂ : List ℕ)
       → b₁ ≡ put_at (record_offset p.count) (join_to p.count (λ i. to_le mass_size M)) lent
-      → b₂ ≡ put_at 0 (saved_header p start_state ++ record_entries p start_state) b₁ → Begins lent r b₂
+      → b₂ ≡ put_at 0 (saved_header p start_state ++ record_entries p start_state) b₁ → Hands (begun_on 0 p lent) (Ok a) b₂
   unfolding mass_entries record_offset form_size
-  begins_form lent h r number b₁ b₂ f g =
+  begins_form lent h a is b₁ b₂ f g =
       let f' = f ∙ ap (λ (x : List ℕ). put_at (record_offset p.count) x lent) (sym entries_start) in
-      rw (begun_is, le?_complete (saved_size p start_state) (length lent) h) (number, form_put p start_state (start_words p) lent b₁ b₂ f' g (omega arith))
+      let most = ((accepted p).0 good).buckets_range.1 in
+      rw (begun_is, le?_complete (saved_size p start_state) (length lent) h)
+      (hands_answer p (record { answer = answer_of p start_state; state = start_state; words = start_words p }) lent b₂ most start_state refl a is (form_put p start_state (start_words p) lent b₁ b₂ f' g (omega arith)))
 
 -- ---- calls on plan bytes: refused by their reading, or under the plan that they hold
 
-begin_refused : (r : ℕ) → ¬ (r ≡ 0) → (p : Plan) (lent : List ℕ) → (r ≡ (begun_on r p lent).number) × (lent ≡ (begun_on r p lent).bytes)
-begin_refused zero n p lent = absurd (n refl)
-begin_refused (suc r) n p lent = (refl, refl)
+module _ (planBytes : List ℕ) where
+  pub begin_refused : (r : Refusal) → read_as (Err r) ≡ decoded planBytes → (lent : List ℕ) → (x : Result Answer Refusal) → IsErrAnd x (λ f. f ≡ r)
+      → Hands (called_begin planBytes lent) x lent
+  unfolding called_begin
+  begin_refused r is lent x h =
+      rw (← is) (hands_refusal _ _ lent _ r (sym (first_some (number_of r) _ (λ z. omega (arith, number_is r, z)))) x h)
 
-draw_refused : (r : ℕ) → ¬ (r ≡ 0) → (p : Plan) (saved : List ℕ) (d : ℕ) (lent : List ℕ)
-    → (r ≡ (drawn_on r p saved d lent).number) × (lent ≡ (drawn_on r p saved d lent).bytes)
-draw_refused zero n p saved d lent = absurd (n refl)
-draw_refused (suc r) n p saved d lent = (refl, refl)
+  pub draw_refused : (r : Refusal) → read_as (Err r) ≡ decoded planBytes → (saved : List ℕ) (d : ℕ) (lent : List ℕ) → (x : Result Answer Refusal)
+      → IsErrAnd x (λ f. f ≡ r) → Hands (called_draw planBytes saved d lent) x lent
+  unfolding called_draw
+  draw_refused r is saved d lent x h =
+      rw (← is) (hands_refusal _ _ lent _ r (sym (first_some (number_of r) _ (λ z. omega (arith, number_is r, z)))) x h)
 
-module _ (planBytes : List ℕ) (read : Read) (is : read ≡ decoded planBytes) where
-  refusal_is : (decoded planBytes).refusal ≡ read.refusal
-  refusal_is = ap (λ (x : Read). x.refusal) (sym is)
+  module _ (p : Plan) (is : read_as (Ok p) ≡ decoded planBytes) where
+    pub plan_good : plan_refusal p ≡ 0
+    plan_good = (accepted p).1 (rw (← is) at (plan-read planBytes (rw (← is))))
 
-  pub plan_good : read.refusal ≡ 0 → plan_refusal read.plan ≡ 0
-  plan_good e = (accepted read.plan).1 (rw is (plan-read planBytes (refusal_is ∙ e)))
-
-  module _ (lent : List ℕ) where
-    pub begin_some : ¬ (read.refusal ≡ 0) → (read.refusal ≡ (called_begin planBytes lent).number) × (lent ≡ (called_begin planBytes lent).bytes)
+    pub begin_goes_on : (lent : List ℕ) → called_begin planBytes lent ≡ begun_on 0 p lent
     unfolding called_begin
-    begin_some n = rw refusal_is (begin_refused read.refusal n (decoded planBytes).plan lent)
+    begin_goes_on lent = rw (← is)
 
-    pub begin_none : read.refusal ≡ 0 → (r : ℕ) (after : List ℕ) → (r ≡ (begun_on 0 read.plan lent).number) × (after ≡ (begun_on 0 read.plan lent).bytes)
-        → (r ≡ (called_begin planBytes lent).number) × (after ≡ (called_begin planBytes lent).bytes)
-    unfolding called_begin
-    begin_none e r after h = rw (refusal_is, e) (rw is at h)
-
--- a plan that was read into lent tables, as `plan_into` says it
-module _ (planBytes : List ℕ) (r : ℕ) (p : Plan) (is : Into planBytes r p) where
-  pub tables_good : r ≡ 0 → plan_refusal p ≡ 0
-  tables_good z = ap plan_refusal (is.1 z) ∙ (accepted (decoded planBytes).plan).1 (plan-read planBytes (sym is.0 ∙ z))
-
-  module _ (saved : List ℕ) (d : ℕ) (lent : List ℕ) where
-    pub draw_some : ¬ (r ≡ 0) → (r ≡ (called_draw planBytes saved d lent).number) × (lent ≡ (called_draw planBytes saved d lent).bytes)
+    pub draw_goes_on : (saved : List ℕ) (d : ℕ) (lent : List ℕ) → called_draw planBytes saved d lent ≡ drawn_on 0 p saved d lent
     unfolding called_draw
-    draw_some n = rw (← is.0) (draw_refused r n (decoded planBytes).plan saved d lent)
-
-    pub draw_none : r ≡ 0 → (answer : ℕ) (after : List ℕ)
-        → (answer ≡ (drawn_on 0 p saved d lent).number) × (after ≡ (drawn_on 0 p saved d lent).bytes)
-        → (answer ≡ (called_draw planBytes saved d lent).number) × (after ≡ (called_draw planBytes saved d lent).bytes)
-    unfolding called_draw
-    draw_none z answer after h =
-        rw (← is.0, z) (subst (λ (q : Plan). (answer ≡ (drawn_on 0 q saved d lent).number) × (after ≡ (drawn_on 0 q saved d lent).bytes)) (is.1 z) h)
+    draw_goes_on saved d lent = rw (← is)

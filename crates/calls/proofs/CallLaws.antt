@@ -1,38 +1,42 @@
 -- What a draw on saved bytes returns and leaves, way out by way out (specs/Calls).
 use mathlib.Core.Path.{◌≡◌, refl, sym, ap, ◌∙◌}
-use mathlib.Core.Bool.{Bool, true, false}
+use mathlib.Core.Bool.{Bool, true, false, not}
 use mathlib.Core.Logic.{◌⊎◌, inl, inr}
 use mathlib.Core.List.{List, [], ◌∷◌}
-use Prim.Native.Nat.{ℕ, zero, suc, ◌≤◌, ◌<◌}
+use Prim.Native.Nat.{ℕ, zero, suc, ◌+◌, ◌≤◌, ◌<◌}
+use native.Mathlib.Numerals.{add-one}
 use native.Mathlib.Omega.{arith}
-use Rattle.walk.specs.Numbers.{lt?}
-use Rattle.walk.specs.Units.{million, horizon_limit}
+use Rattle.std.specs.Prelude.{Result, Ok, Err, IsErrAnd}
+use Rattle.std.proofs.lemmas.Result.{err_from_is_err_and}
+use Rattle.walk.specs.Numbers.{le?, lt?}
+use Rattle.walk.specs.Units.{million}
 use Rattle.walk.proofs.Tests.{le?_complete, le?_fails}
 use Rattle.plan.specs.Places.{eq?}
-use Rattle.refusals.specs.Refusals.{first_refusal}
+use Rattle.refusals.specs.Refusals.{number_of, unless, first_refusal}
+use Rattle.refusals.specs.declared.Refusal.{Refusal}
+use Rattle.refusals.specs.declared.Refusal.TheVariants.{Counts, Thresholds, Allowances, Times, Buckets, Cover, Form, Words, Draw, Ended, Spoiled, Room, Run, TooClose, SavedForm, Points, PointsInForm}
+use Rattle.refusals.proofs.RefusalLaws.{number_is}
 use Rattle.plan.specs.Plan.{count_limit, plan_refusal}
 use Rattle.plan.specs.declared.Plan.{Plan}
-use Rattle.plan.proofs.PlaceLaws.{le_or_lt, any_cong, largest_cong, smallest_cong}
+use Rattle.plan.proofs.PlaceLaws.{le_or_lt, any_cong, largest_cong, smallest_cong, first_one}
+use Rattle.plan.proofs.AcceptedLaws.{accepted}
 use Rattle.bucket_choice.specs.Choice.{chosen_bucket}
-use Rattle.bucket_test.specs.Words.{words_fit}
 use Rattle.bucket_test.specs.Turn.{record_at}
 use Rattle.bucket_test.specs.Answers.{low_of, high_of, any_wide, first_that_fits, answer_of, is_ending}
-use Rattle.bucket_test.specs.Draw.{Outcome, state_sound, draw_refusal_over, draw_refusal, next_state, next_words}
+use Rattle.bucket_test.specs.Draw.{Outcome, state_sound, draw_refusal, next_state}
 use Rattle.bucket_test.specs.declared.Answer.{Answer}
 use Rattle.bucket_test.specs.declared.State.{State}
 use Rattle.bucket_test.specs.declared.Threshold.{Threshold}
 use Rattle.bucket_test.proofs.PartLaws.{words_say}
 use Rattle.bucket_test.proofs.AnsweringLaws.{rule_with, rule_of}
-use Rattle.bucket_test.proofs.DrawingLaws.{early, drawn_by_lem}
-use Rattle.bucket_test.proofs.OneStep.{drawn_says}
+use Rattle.bucket_test.proofs.DrawingLaws.{begin_words, draw_goes_on, drawn_by_lem, drawable}
 use Rattle.little.specs.Little.{field}
 use Rattle.saved_test.specs.Form.{draws_field}
 use Rattle.saved_test.specs.Reading.{record_in, state_in, words_in, form_fits}
 use Rattle.saved_test.proofs.HeldLaws.{record_held, words_held}
 use Rattle.calls.specs.Calls.{answer_number, room_refusal, called_by, drawn_on}
-use Rattle.calls.specs.Inner.{Seen, outcome, Took}
+use Rattle.calls.specs.Inner.{Hands, Seen, answer_by_standing, refusal_on, Ready, outcome, Took}
 use Rattle.calls.specs.declared.Standing.{Standing}
-use Rattle.calls.specs.declared.Taken.{Taken}
 
 -- ---- answers
 
@@ -64,101 +68,121 @@ rule_large p s =
 
 -- the answer to a state whose records stand so
 answer_seen : (p : Plan) (s : State) (records : ℕ → Threshold) → ((i : ℕ) → i < p.count → record_at s i ≡ records i) → (st : Standing)
-    → Seen p.thresholds p.count records st → (spent : Bool) → spent ≡ eq? s.n p.horizon
-    → let j = chosen_bucket p st.low st.high in first_that_fits (lt? st.high st.low) (lt? j p.buckets) j st.wide spent ≡ answer_of p s
+    → Seen p p.count records st → (spent : Bool) → spent ≡ eq? s.n p.horizon → (a : Answer) → a ≡ answer_by_standing p st spent → a ≡ answer_of p s
 unfolding low_of high_of any_wide
-answer_seen p s records same st h spent e =
-    rule_of p s (h.low ∙ largest_cong p.count _ _ 0 (λ i l. rw (same i l))) (h.high ∙ smallest_cong p.count _ _ million (λ i l. rw (same i l)))
+answer_seen p s records same st h spent e a is =
+    is ∙ rule_of p s (h.low ∙ largest_cong p.count _ _ 0 (λ i l. rw (same i l))) (h.high ∙ smallest_cong p.count _ _ million (λ i l. rw (same i l)))
     (h.wide ∙ any_cong p.count _ _ (λ i l. rw (same i l))) e
 
--- .. that bytes hold, by tables of the plan
-pub answer_held : (p : Plan) (bytes thresholds : List ℕ) (count buckets : ℕ) → p.thresholds ≡ thresholds → p.count ≡ count → p.buckets ≡ buckets
-    → count ≤ count_limit → (st : Standing) → Seen thresholds count (record_in bytes) st → (spent : Bool) → spent ≡ eq? (state_in p bytes).n p.horizon
-    → let j = chosen_bucket p st.low st.high in
-    first_that_fits (lt? st.high st.low) (lt? j buckets) j st.wide spent ≡ answer_of p (state_in p bytes)
-answer_held p bytes thresholds count buckets ts k b few st h spent e =
-    rw (← b)
-    (answer_seen p (state_in p bytes) (record_in bytes) (record_held p bytes (omega arith)) st (along (sym ts) (sym k) h) spent e)
-  where
-    along : {ts ts' : List ℕ} {k k' : ℕ} → ts ≡ ts' → k ≡ k' → Seen ts k (record_in bytes) st → Seen ts' k' (record_in bytes) st
-    along t k h = rw (t, k) at h
+-- .. that bytes hold
+pub answer_held : (p : Plan) (bytes : List ℕ) → p.count ≤ count_limit → (st : Standing) → Seen p p.count (record_in bytes) st
+    → (a : Answer) → a ≡ answer_by_standing p st (eq? (field 4 draws_field bytes) p.horizon) → a ≡ answer_of p (state_in p bytes)
+unfolding state_in
+answer_held p bytes few st h a is = answer_seen p (state_in p bytes) (record_in bytes) (record_held p bytes few) st h _ refl a is
 
-module _ (p : Plan) (bytes : List ℕ) (d : ℕ) (lent : List ℕ) (good : plan_refusal p ≡ 0) where
+-- ---- what inner calls hand back
+
+number_small : (r : Refusal) → number_of r ≤ 140
+number_small Counts = omega arith
+number_small Thresholds = omega arith
+number_small Allowances = omega arith
+number_small Times = omega arith
+number_small Buckets = omega arith
+number_small Cover = omega arith
+number_small Form = omega arith
+number_small Words = omega arith
+number_small Draw = omega arith
+number_small Ended = omega arith
+number_small Spoiled = omega arith
+number_small Room = omega arith
+number_small Run = omega arith
+number_small TooClose = omega arith
+number_small SavedForm = omega arith
+number_small Points = omega arith
+number_small PointsInForm = omega arith
+
+-- a refusal of a call, which `?` hands on
+pub hands_refusal : (p : Plan) (o : Outcome) (lent : List ℕ) (q : ℕ) (r : Refusal) → number_of r ≡ q
+    → (x : Result Answer Refusal) → IsErrAnd x (λ f. f ≡ r) → Hands (called_by q p o lent) x lent
+hands_refusal p o lent q r e x h =
+    let k = err_from_is_err_and x h in
+    rw (k.1, k.2) (record { number = (go q e).0; small = number_small r; bytes = (go q e).1 })
+  where
+    go : (q : ℕ) → number_of r ≡ q → (number_of r ≡ (called_by q p o lent).number) × (lent ≡ (called_by q p o lent).bytes)
+    go zero e = let l = number_is r in absurd (omega (arith, e, l))
+    go (suc q) e = (e, refl)
+
+-- the answer rule's answer, and the form
+pub hands_answer : (p : Plan) (o : Outcome) (lent after : List ℕ) → p.buckets ≤ 16 → (s : State) → o.answer ≡ answer_of p s → (a : Answer) → a ≡ o.answer
+    → after ≡ (called_by 0 p o lent).bytes → Hands (called_by 0 p o lent) (Ok a) after
+hands_answer p o lent after most s by_rule a is bytes = record {
+  number = rw is;
+  small = rw (is, by_rule) (rule_small p s most);
+  bytes = bytes;
+}
+
+module _ (p : Plan) (bytes : List ℕ) (d : ℕ) where
   abbrev s : State
   s = state_in p bytes
 
   abbrev ws : List ℕ
   ws = words_in p bytes
 
-  n_in : (state_in p bytes).n ≡ field 4 draws_field bytes
-  unfolding state_in
-  n_in = refl
+  -- ---- what refuses a draw before its room is judged
 
-  -- ---- the ways out
+  pub on_form : form_fits p bytes ≡ false → refusal_on p bytes d ≡ 15
+  on_form e = rw e
 
-  abbrev Hands : ℕ → List ℕ → Type 0
-  Hands r after = (r ≡ (drawn_on 0 p bytes d lent).number) × (after ≡ (drawn_on 0 p bytes d lent).bytes)
+  pub past_form : plan_refusal p ≡ 0 → form_fits p bytes ≡ true
+      → refusal_on p bytes d
+      ≡ first_refusal (unless (le? d 1) 9 ∷ unless (not (is_ending (answer_of p s))) 10 ∷ unless (state_sound p s ws) 11 ∷ [])
+  past_form good e =
+      let fits = (words_say p ws).1 (words_held p bytes) in
+      rw e (first_one (draw_refusal p s ws d)) ∙ draw_goes_on p s ws d (sym (rw (begin_words p ws good, fits)))
 
-  fits : words_fit p ws ≡ true
-  fits = (words_say p ws).1 (words_held p bytes)
+  pub ready : refusal_on p bytes d ≡ 0 → Ready p bytes d
+  ready e = let g = go (form_fits p bytes) (draw_refusal p s ws d) e in record { form = g.0; unrefused = g.1 }
+    where
+      go : (b : Bool) (r : ℕ) → first_refusal (unless b 15 ∷ r ∷ []) ≡ 0 → (b ≡ true) × (r ≡ 0)
+      go true zero e = (refl, refl)
+      go true (suc r) e = absurd (omega arith)
+      go false r e = absurd (omega arith)
 
-  pub hands_15 : form_fits p bytes ≡ false → Hands 15 lent
-  hands_15 e = rw e (refl, refl)
+  module _ (lent : List ℕ) where
+    -- such a refusal is the call's
+    pub first_on : (r : Refusal) → number_of r ≡ refusal_on p bytes d
+        → number_of r ≡ first_refusal (unless (form_fits p bytes) 15 ∷ draw_refusal p s ws d ∷ room_refusal p (outcome p bytes d) lent ∷ [])
+    first_on r = go (unless (form_fits p bytes) 15) (draw_refusal p s ws d) (room_refusal p (outcome p bytes d) lent)
+      where
+        go : (a b c : ℕ) → number_of r ≡ first_refusal (a ∷ b ∷ []) → number_of r ≡ first_refusal (a ∷ b ∷ c ∷ [])
+        go zero zero c e = let k = number_is r in absurd (omega (arith, e, k))
+        go zero (suc b) c e = e
+        go (suc a) b c e = e
 
-  module _ (form : form_fits p bytes ≡ true) where
-    pub hands_9 : 1 < d → Hands 9 lent
-    unfolding draw_refusal_over
-    hands_9 h = rw (form, good, fits, le?_fails d 1 h) (refl, refl)
+    -- ---- a draw that only 12 can refuse
 
-    pub hands_10 : d ≤ 1 → is_ending (answer_of p s) ≡ true → Hands 10 lent
-    unfolding draw_refusal_over
-    hands_10 bit e = rw (form, good, fits, le?_complete d 1 bit, e) (refl, refl)
+    module _ (j : Ready p bytes d) where
+      drawn_room : (q : ℕ) → room_refusal p (outcome p bytes d) lent ≡ q → drawn_on 0 p bytes d lent ≡ called_by q p (outcome p bytes d) lent
+      drawn_room q e = rw (j.form, j.unrefused, e, first_one q)
 
-    pub hands_11 : d ≤ 1 → is_ending (answer_of p s) ≡ false → state_sound p s ws ≡ false → Hands 11 lent
-    unfolding draw_refusal_over
-    hands_11 bit on spoiled = rw (form, good, fits, le?_complete d 1 bit, on, spoiled) (refl, refl)
-
-    module _ (r : Taken) (after : List ℕ) (t : Took p bytes d lent r after) where
-      by_refusal : (q : ℕ) → r.refusal ≡ q → ((called_by q p (outcome p bytes d lent) lent).number ≡ (drawn_on 0 p bytes d lent).number)
-          × (after ≡ (drawn_on 0 p bytes d lent).bytes)
-      by_refusal q e =
-          let same : first_refusal (draw_refusal p s ws d ∷ room_refusal p (outcome p bytes d lent) lent ∷ []) ≡ q = sym t.refusal_is ∙ e in
-          rw (form, same) (refl, rw e at t.written)
-
-      pub hands_refused : ¬ (r.refusal ≡ 0) → Hands r.refusal after
-      hands_refused n = go r.refusal refl n
-        where
-          go : (q : ℕ) → r.refusal ≡ q → ¬ (q ≡ 0) → Hands q after
-          go zero e n = absurd (n refl)
-          go (suc q) e n = by_refusal (suc q) e
-
-      module _ (none : r.refusal ≡ 0) where
-        taken : draw_refusal p s ws d ≡ 0
-        taken = go (draw_refusal p s ws d) (room_refusal p (outcome p bytes d lent) lent) (sym t.refusal_is ∙ none)
+      module _ (after : List ℕ) where
+        pub hands_room : (r : Refusal) → Took p bytes d lent (Err r) after → (x : Result Answer Refusal) → IsErrAnd x (λ f. f ≡ r) → Hands (drawn_on 0 p bytes d lent) x after
+        hands_room r t x h =
+            let same : after ≡ lent = t.written ∙ go (number_of r) refl in
+            rw (drawn_room (number_of r) (sym t.refusal_is), same) (hands_refusal p (outcome p bytes d) lent (number_of r) r refl x h)
           where
-            go : (a b : ℕ) → first_refusal (a ∷ b ∷ []) ≡ 0 → a ≡ 0
-            go zero b e = refl
-            go (suc a) b e = absurd (omega arith)
+            go : (q : ℕ) → number_of r ≡ q → (called_by q p (outcome p bytes d) lent).bytes ≡ lent
+            go zero e = let k = number_is r in absurd (omega (arith, e, k))
+            go (suc q) e = refl
 
-        abbrev next : State
-        next = next_state p s ws d
-
-        drawn_is : outcome p bytes d lent ≡ record { answer = answer_of p next; state = next; words = next_words p s ws d }
-        drawn_is = drawn_by_lem p s ws d 0 taken
-
-        pub took_early : field 4 draws_field bytes < horizon_limit
-        unfolding state_in
-        took_early = let h = drawn_says p s ws d taken in early p s ws h.0 h.1 h.2 h.3
-
-        -- after the draw
-        pub answer_after : (n : ℕ) → n ≡ suc (field 4 draws_field bytes) → (spent : Bool) → spent ≡ eq? n p.horizon
-            → let j = chosen_bucket p r.low r.high in first_that_fits (lt? r.high r.low) (lt? j p.buckets) j r.wide spent ≡ answer_of p next
-        unfolding next_state
-        answer_after n n_is spent e =
-            answer_seen p next (record_at next) (λ i l. refl) _ (rw drawn_is at (t.standing none)) spent
-            (e ∙ ap (λ (m : ℕ). eq? m p.horizon) (n_is ∙ ap suc (sym n_in)))
-
-        pub hands_answer : (a : Answer) → a ≡ answer_of p next → (q : ℕ) → q ≡ answer_number a → Hands q after
-        hands_answer a is q number =
-            let h = by_refusal 0 none in
-            (number ∙ ap answer_number (is ∙ ap (λ (o : Outcome). o.answer) (sym drawn_is)) ∙ h.0, h.1)
+        pub hands_taken : (st : Standing) → Took p bytes d lent (Ok st) after → (spent : Bool) → spent ≡ eq? (field 4 draws_field bytes + 1) p.horizon
+            → (a : Answer) → a ≡ answer_by_standing p st spent → Hands (drawn_on 0 p bytes d lent) (Ok a) after
+        unfolding next_state state_in
+        hands_taken st t spent e a is =
+            let next = next_state p s ws d in
+            let drawn_is = drawn_by_lem p s ws d 0 j.unrefused in
+            let by_rule : (outcome p bytes d).answer ≡ answer_of p next = ap (λ (o : Outcome). o.answer) drawn_is in
+            let answer : a ≡ answer_of p next =
+            answer_seen p next (record_at next) (λ i l. refl) st (rw drawn_is at t.standing) spent (e ∙ rw (add-one (field 4 draws_field bytes))) a is in
+            let most = ((accepted p).0 (drawable p s ws d j.unrefused).good).buckets_range.1 in
+            rw (drawn_room 0 (sym t.refusal_is)) (hands_answer p (outcome p bytes d) lent after most next by_rule a (answer ∙ sym by_rule) t.written)

@@ -1,22 +1,16 @@
 -- The longest form fits, whatever the draw leaves (specs/Room).
 use mathlib.Core.Path.{◌≡◌, refl}
-use mathlib.Core.Bool.{Bool, true, false, not}
-use mathlib.Core.List.{List, [], ◌∷◌}
-use Prim.Native.Nat.{ℕ, zero, suc, ◌≤◌}
+use mathlib.Core.Bool.{true}
+use mathlib.Core.List.{List}
+use Prim.Native.Nat.{ℕ, ◌≤◌}
 use native.Mathlib.Omega.{arith}
 use lib.ListN.{length}
-use Rattle.walk.specs.Numbers.{le?}
-use Rattle.walk.proofs.Tests.{le?_sound, le?_complete}
-use Rattle.refusals.specs.Refusals.{unless, first_refusal}
+use Rattle.walk.proofs.Tests.{le?_complete}
 use Rattle.plan.specs.Plan.{plan_refusal}
 use Rattle.plan.specs.declared.Plan.{Plan}
 use Rattle.plan.proofs.AcceptedLaws.{accepted}
-use Rattle.bucket_test.specs.Words.{words_fit}
-use Rattle.bucket_test.specs.Answers.{answer_of, is_ending}
-use Rattle.bucket_test.specs.Draw.{state_sound, draw_refusal_over, draw_refusal, start_state, next_state}
-use Rattle.bucket_test.specs.declared.State.{State}
+use Rattle.bucket_test.specs.Draw.{draw_refusal, start_state, next_state}
 use Rattle.bucket_test.proofs.DrawingLaws.{drawn_by_lem}
-use Rattle.bucket_test.proofs.OneStep.{drawn_says}
 use Rattle.stored_plan.specs.Reading.{decoded}
 use Rattle.saved_test.specs.Form.{form_limit, saved_size}
 use Rattle.saved_test.specs.Reading.{state_in, words_in, form_fits}
@@ -26,18 +20,6 @@ use Rattle.calls.proofs.PlanRead.{plan-read}
 use Rattle.calls.proofs.CallLaws.{rule_large}
 use Rattle.calls.proofs.BeginLaws.{start_small, begun_is}
 use Rattle.calls.proofs.Taking.{next_small}
-
--- a draw that was not refused is 0 or 1
-bit : (p : Plan) (s : State) (ws : List ℕ) (d : ℕ) → draw_refusal p s ws d ≡ 0 → d ≤ 1
-unfolding draw_refusal_over
-bit p s ws d e =
-    le?_sound d 1 (go (plan_refusal p) (words_fit p ws) (le? d 1) (unless (not (is_ending (answer_of p s))) 10 ∷ unless (state_sound p s ws) 11 ∷ []) e)
-  where
-    go : (r : ℕ) (w b : Bool) (rs : List ℕ) → first_refusal (r ∷ unless w 8 ∷ unless b 9 ∷ rs) ≡ 0 → b ≡ true
-    go zero true true rs e = refl
-    go zero true false rs e = absurd (omega arith)
-    go zero false b rs e = absurd (omega arith)
-    go (suc r) w b rs e = absurd (omega arith)
 
 module _ (planBytes lent : List ℕ) (long : form_limit ≤ length lent) (read : (decoded planBytes).refusal ≡ 0) where
   abbrev p : Plan
@@ -58,8 +40,7 @@ module _ (planBytes lent : List ℕ) (long : form_limit ≤ length lent) (read :
   draws saved d form none =
       let s = state_in p saved in
       let ws = words_in p saved in
-      let says = drawn_says p s ws d none in
-      let small = next_small p saved d good form (bit p s ws d none) says.2 says.3 in
+      let small = next_small (record { form = form; unrefused = none }) refl refl in
       let fits = le?_complete (saved_size p (next_state p s ws d)) (length lent) (omega (arith, small)) in
       rw (read, form, none, drawn_by_lem p s ws d 0 none, fits) (rule_large p (next_state p s ws d))
 

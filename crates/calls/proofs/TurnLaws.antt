@@ -6,12 +6,10 @@ use Prim.Native.Nat.{ℕ, zero, suc, ◌+◌, ◌*◌, ◌-◌, ◌≤◌, ◌<�
 use native.Mathlib.Numerals.{add-one}
 use native.Mathlib.Omega.{arith}
 use lib.IntN.{ℤ}
-use lib.ListN.{length, take, get_or}
+use lib.ListN.{length, take}
 use lib.Seq.{length-take-le}
 use Rattle.walk.specs.Numbers.{only, choose}
 use Rattle.walk.specs.Units.{million, wide}
-use Rattle.walk.specs.Spending.{portioned}
-use Rattle.walk.specs.declared.Portion.{Portion}
 use Rattle.walk.specs.Walk.{below}
 use Rattle.walk.specs.Row.{Row, upper, step_row}
 use Rattle.walk.specs.Strings.{Upper, Lower, is_on}
@@ -23,6 +21,9 @@ use Rattle.walk.specs.declared.Walked.{Walked}
 use Rattle.walk.proofs.Boundaries.{above_below}
 use Rattle.walk.proofs.RowSteps.{step_moves}
 use Rattle.plan.specs.Places.{any_to, largest_to, smallest_to, join_to}
+use Rattle.plan.specs.Plan.{count_limit, threshold_at, spending_of}
+use Rattle.plan.specs.declared.Plan.{Plan}
+use Rattle.plan.proofs.AcceptedLaws.{accepted}
 use Rattle.plan.proofs.PlaceLists.{over-length, join_length}
 use Rattle.bucket_test.specs.Turn.{wide_open, walked_on, turn_record, turn_part, MayTurn}
 use Rattle.bucket_test.specs.declared.Threshold.{Threshold}
@@ -120,36 +121,42 @@ grows_by a e n S t part (AtMost u) is may = rw is (omega arith, omega arith)
 
 -- ---- how records stand, one by one
 
-pub seen_none : (thresholds : List ℕ) (records : ℕ → Threshold) (s : Standing) → s ≡ record { low = 0; high = million; wide = false }
-    → Seen thresholds 0 records s
+pub seen_none : (p : Plan) (records : ℕ → Threshold) (s : Standing) → s ≡ record { interval = record { low = 0; high = million }; wide = false }
+    → Seen p 0 records s
 unfolding largest_to smallest_to any_to
-seen_none thresholds records s e = rw e (record { low = refl; high = refl; wide = refl })
+seen_none p records s e = rw e (record { low = refl; high = refl; wide = refl })
 
-pub seen_next : (thresholds : List ℕ) (records : ℕ → Threshold) (i : ℕ) (s r : Standing) (t : Threshold) → t ≡ records i → Seen thresholds i records s
-    → r.low ≡ max s.low (only (is_on Upper t.mark) (get_or thresholds i 0))
-    → r.high ≡ min s.high (choose (is_on Lower t.mark) (get_or thresholds i 0) million) → r.wide ≡ (s.wide || wide_open t)
-    → Seen thresholds (i + 1) records r
+pub seen_next : (p : Plan) (records : ℕ → Threshold) (i : ℕ) (s r : Standing) (t : Threshold) → t ≡ records i → Seen p i records s
+    → r.interval.low ≡ max s.interval.low (only (is_on Upper t.mark) (threshold_at p i))
+    → r.interval.high ≡ min s.interval.high (choose (is_on Lower t.mark) (threshold_at p i) million) → r.wide ≡ (s.wide || wide_open t)
+    → Seen p (i + 1) records r
 unfolding any_to
-seen_next thresholds records i s r t is h low high wides = record {
-  low = (rw is at low) ∙ largest_more i _ 0 s.low h.low;
-  high = (rw is at high) ∙ smallest_more i _ million s.high h.high;
+seen_next p records i s r t is h low high wides = record {
+  low = (rw is at low) ∙ largest_more i _ 0 s.interval.low h.low;
+  high = (rw is at high) ∙ smallest_more i _ million s.interval.high h.high;
   wide = (rw is at wides) ∙ rw (add-one i, h.wide);
 }
 
 -- ---- the thresholds that bytes hold
 
-module _ (thresholds allowances : List ℕ) (count : ℕ) (portion : Portion) (n ones : ℕ) (bytes : List ℕ) (j : Turns thresholds allowances count portion n ones bytes) where
+module _ {p : Plan} {n ones : ℕ} {bytes : List ℕ} (j : Turns p n ones bytes) where
+  abbrev count : ℕ
+  count = p.count
+
+  pub few : count ≤ count_limit
+  few = ((accepted p).0 j.judged).count_range.1
+
   abbrev pub next : ℕ → Threshold
-  next = new_record thresholds allowances count portion n ones bytes
+  next = new_record p n ones bytes
 
   abbrev pub parts : ℕ → List ℕ
-  parts = new_part thresholds allowances count portion n ones bytes
+  parts = new_part p n ones bytes
 
   abbrev records : ℕ → List ℕ
-  records = new_record_bytes thresholds allowances count portion n ones bytes
+  records = new_record_bytes p n ones bytes
 
   abbrev entry : ℕ → List ℕ
-  entry = new_mass_bytes thresholds allowances count portion n ones bytes
+  entry = new_mass_bytes p n ones bytes
 
   abbrev pub offset : ℕ → ℕ
   offset i = record_offset count + mass_size * masses_to next i
@@ -159,16 +166,19 @@ module _ (thresholds allowances : List ℕ) (count : ℕ) (portion : Portion) (n
     held = record_in bytes i
 
     abbrev a : ℕ
-    a = get_or thresholds i 0
+    a = threshold_at p i
 
     abbrev e : ℕ
-    e = portioned portion (get_or allowances i 0)
+    e = spending_of p i n
 
     -- the record t, with its masses, which stand at an offset, read into the front of a part that has room for one more
-    module _ (t : Threshold) (is : t ≡ held) (at : ℕ) (here : at ≡ mass_offset bytes count i) (part : List ℕ) (room : live_count held < length part)
-        (E : ℕ) (E-is : E ≡ e) where
+    module _ (t : Threshold) (is : t ≡ held) (live : ℕ) (live_is : live ≡ live_count t) (at : ℕ) (here : at ≡ mass_offset bytes count i) (part : List ℕ)
+        (room : live_count held < length part) where
       abbrev front : List ℕ
       front = filled (live_count held) (column mass_size at mass_size bytes) part
+
+      live_held : live ≡ live_count held
+      live_held = live_is ∙ ap (λ (u : Threshold). live_count u) is
 
       same : take (live_count held) front ≡ take (live_count held) (part_in bytes count i)
       same = held_front bytes count j.form i l (live_count held) at refl here front part refl (omega arith)
@@ -177,20 +187,24 @@ module _ (thresholds allowances : List ℕ) (count : ℕ) (portion : Portion) (n
       unfolding filled
       front_room = omega (arith, over-length (live_count held) (λ k _. column mass_size at mass_size bytes k) part)
 
-      -- what the turn asks, and what it gives
-      pub may_turn : (live_count t ≤ length part) × (at + mass_size * live_count t ≤ length bytes)
-          × MayTurn a E t.mark t (filled (live_count t) (column mass_size at mass_size bytes) part)
-      may_turn =
-          rw (is, E-is)
-          (omega arith, held_inside bytes count j.form i l (live_count held) at refl here, may_by a e held (part_in bytes count i) front held.mark same front_room (j.may i l))
+      -- what the reading and the turn ask, and what the turn gives
+      pub may_read : (live ≤ length part) × (at + mass_size * live ≤ length bytes)
+      may_read = (omega (arith, live_held, room), held_inside bytes count j.form i l live at live_held here)
 
-      pub turned : (r : Threshold) (q : List ℕ) → r ≡ turn_record a E n ones t.mark t (filled (live_count t) (column mass_size at mass_size bytes) part)
-          → row_of r.walked q ≡ row_of r.walked (turn_part a E n ones t.mark t (filled (live_count t) (column mass_size at mass_size bytes) part))
-          → (r ≡ next i) × (take (live_count r) q ≡ take (live_count r) (parts i))
-      turned r q made row =
-          let r-is : r ≡ next i = (rw (is, E-is) at made) ∙ turn_by held (part_in bytes count i) front a e n ones held.mark same in
-          let k = front_by a e n ones held (part_in bytes count i) front q held.mark refl same (rw (is, E-is, r-is) at row) in
-          (r-is, rw r-is k)
+      module _ (q₀ : List ℕ) (read : q₀ ≡ filled live (column mass_size at mass_size bytes) part) where
+        read_is : q₀ ≡ front
+        read_is = read ∙ rw live_held
+
+        pub may_turn : MayTurn a e t.mark t q₀
+        may_turn = rw (is, read_is) (may_by a e held (part_in bytes count i) front held.mark same front_room (j.may i l))
+
+        pub turned : (r : Threshold) (q : List ℕ) → r ≡ turn_record a e n ones t.mark t q₀
+            → row_of r.walked q ≡ row_of r.walked (turn_part a e n ones t.mark t q₀)
+            → (r ≡ next i) × (take (live_count r) q ≡ take (live_count r) (parts i))
+        turned r q made row =
+            let r-is : r ≡ next i = (rw (is, read_is) at made) ∙ turn_by held (part_in bytes count i) front a e n ones held.mark same in
+            let k = front_by a e n ones held (part_in bytes count i) front q held.mark refl same (rw (is, read_is, r-is) at row) in
+            (r-is, rw r-is k)
 
     -- the next offset of the old masses
     pub old_next : (t : Threshold) → t ≡ held → (live at : ℕ) → live ≡ live_count t → at ≡ mass_offset bytes count i
@@ -203,7 +217,7 @@ module _ (thresholds allowances : List ℕ) (count : ℕ) (portion : Portion) (n
   unfolding form_size record_offset wide
   old_small =
       let masses = masses_few (record_in bytes) count (λ i l. part_few bytes count i l j.form.records j.form.sized) in
-      omega (arith, j.form.sized, masses, j.few)
+      omega (arith, j.form.sized, masses, few)
 
   -- ---- where the new masses go
 
@@ -213,9 +227,9 @@ module _ (thresholds allowances : List ℕ) (count : ℕ) (portion : Portion) (n
   pub new_few : (i : ℕ) → i ≤ count → masses_to next i ≤ wide * i
   new_few i h = masses_few next i (λ k l. (grows k (omega arith)).0)
 
-  pub new_small : new_size thresholds allowances count portion n ones bytes ≤ form_limit
+  pub new_small : new_size p n ones bytes ≤ form_limit
   unfolding form_size record_offset wide
-  new_small = omega (arith, j.few, new_few count (omega arith))
+  new_small = omega (arith, few, new_few count (omega arith))
 
   module _ (i : ℕ) (l : i < count) (r : Threshold) (r-is : r ≡ next i) (live : ℕ) (live_is : live ≡ live_count r) where
     is_live_lem : live ≡ live_count (next i)
@@ -232,14 +246,14 @@ module _ (thresholds allowances : List ℕ) (count : ℕ) (portion : Portion) (n
     new_masses_lem = rw (add-one i, is_live_lem)
 
     module _ (to : ℕ) (here : to ≡ offset i) where
-      pub new_inside : to + mass_size * live ≤ new_size thresholds allowances count portion n ones bytes
+      pub new_inside : to + mass_size * live ≤ new_size p n ones bytes
       unfolding form_size
       new_inside = rw (here, is_live_lem) (omega (arith, masses_within next count i l))
 
       -- the new masses go behind those of the thresholds before, and the record behind theirs
       pub entries_next : (q : List ℕ) → take (live_count r) q ≡ take (live_count r) (parts i) → (b b₁ b₂ : List ℕ)
           → b₁ ≡ put_at header_size (join_to i records) (put_at (record_offset count) (join_to i entry) b)
-          → b₂ ≡ put_at (header_size + record_size * i) (record_bytes r) (put_at to (mass_bytes live q) b₁) → new_size thresholds allowances count portion n ones bytes ≤ length b
+          → b₂ ≡ put_at (header_size + record_size * i) (record_bytes r) (put_at to (mass_bytes live q) b₁) → new_size p n ones bytes ≤ length b
           → b₂ ≡ put_at header_size (join_to (i + 1) records) (put_at (record_offset count) (join_to (i + 1) entry) b)
       unfolding join_to form_size record_offset
       entries_next q same b b₁ b₂ f h long =
@@ -263,7 +277,7 @@ module _ (thresholds allowances : List ℕ) (count : ℕ) (portion : Portion) (n
 
   -- at last, one behind the other
   pub entries_last : (b b₁ : List ℕ) → b₁ ≡ put_at header_size (join_to count records) (put_at (record_offset count) (join_to count entry) b)
-      → record_offset count ≤ length b → b₁ ≡ put_at header_size (new_entries thresholds allowances count portion n ones bytes) b
+      → record_offset count ≤ length b → b₁ ≡ put_at header_size (new_entries p n ones bytes) b
   unfolding record_offset
   entries_last b b₁ e long =
       let records-long : length (join_to count records) ≡ record_size * count = join_length records record_size count (λ k l. record_length (next k)) in
@@ -276,6 +290,6 @@ module _ (thresholds allowances : List ℕ) (count : ℕ) (portion : Portion) (n
   masses_grow zero h = omega arith
   masses_grow (suc k) h = omega (arith, masses_grow k (omega arith), (grows k (omega arith)).1)
 
-  pub size_grows : new_size thresholds allowances count portion n ones bytes ≤ length bytes + mass_size * count
+  pub size_grows : new_size p n ones bytes ≤ length bytes + mass_size * count
   unfolding form_size
   size_grows = omega (arith, j.form.sized, masses_grow count (omega arith))

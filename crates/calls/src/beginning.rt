@@ -6,12 +6,14 @@ ghost use Rattle.plan.specs.Plan.{count_limit, plan_refusal};
 ghost use Rattle.little.specs.Little.{to_le, put_at};
 ghost use Rattle.saved_test.specs.Form.{mass_size, record_offset};
 ghost use Rattle.calls.specs.Calls.{begun_on};
+ghost use Rattle.calls.specs.Inner.{Hands};
 
-use crate::answers::answer_number;
+use bucket_test::Answer;
 use bucket_test::answering::answer_of;
 use bucket_test::starting::ten_of;
 use little::numbers::write_le;
 use plan::Plan;
+use refusals::{Refusal, ensure};
 use saved_test::form::{HEADER_SIZE, MASS_SIZE, RECORD_SIZE};
 use saved_test::writing::write_front;
 use walk::M;
@@ -28,17 +30,16 @@ fn start_masses(lent: &mut [u8], count: usize)
     }
 }
 
-// A beginning under an accepted plan: 12, or the answer's number, with the form in the lent bytes.
-pub(crate) fn begin_on(p: Plan, lent: &mut [u8]) -> u32
-    requires { plan_refusal p ≡ 0 }
-    ensures { (result ≡ (begun_on 0 p lent.old).number) × (lent.new ≡ (begun_on 0 p lent.old).bytes) }
+// A beginning under an accepted plan: its answer, with the form in the lent bytes.
+pub(crate) fn begin_on(p: &Plan, lent: &mut [u8]) -> Result<Answer, Refusal>
+    requires { plan_refusal p.now ≡ 0 }
+    ensures { Hands (begun_on 0 p.now lent.old) result lent.new }
 {
     let count = p.count as usize;
-    if lent.len() < HEADER_SIZE + RECORD_SIZE * count + MASS_SIZE * count {
-        return 12;
-    }
+    let size = HEADER_SIZE + RECORD_SIZE * count + MASS_SIZE * count;
+    ensure(size <= lent.len(), Refusal::Room)?;
     start_masses(lent, count);
     let s = ten_of(start_walked());
-    write_front(lent, p, s);
-    answer_number(answer_of(p, s))
+    write_front(lent, p, &s);
+    Ok(answer_of(p, &s))
 }

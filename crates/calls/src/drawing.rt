@@ -1,123 +1,74 @@
-// A draw to the test that saved bytes hold, once all but the room is judged (saved 6).
-ghost use Rattle.std.specs.Prelude.{ℕ, ◌≤◌, ◌<◌, length};
-ghost use Rattle.plan.specs.Plan.{count_limit};
+// A draw to the test that saved bytes hold, under an accepted plan (saved 6).
+ghost use Rattle.std.specs.Prelude.{◌≡◌, [], ◌∷◌, ℕ, ◌≤◌, ◌<◌, length};
+ghost use Rattle.walk.specs.Units.{wide};
+ghost use Rattle.refusals.specs.Refusals.{refusal_in};
+ghost use Rattle.plan.specs.Plan.{count_limit, plan_refusal};
 ghost use Rattle.saved_test.specs.Form.{record_offset, live_count};
 ghost use Rattle.saved_test.specs.Reading.{record_in};
-ghost use Rattle.calls.specs.Inner.{PartHoldsOneMore, short, middle, Ready, Took};
+ghost use Rattle.calls.specs.Calls.{drawn_on};
+ghost use Rattle.calls.specs.Inner.{Hands, refusal_on, PartHoldsOneMore, Ready, Took};
 
-use crate::Taken;
+use crate::Standing;
+use crate::stands::has_ended;
 use crate::turns::{has_room, turn_through};
+use bucket_test::Answer;
+use bucket_test::answering::first_that_fits;
 use little::numbers::read_u32;
-use plan::COUNT_LIMIT;
+use plan::Plan;
+use refusals::{Refusal, ensure};
 use saved_test::form::{DRAWS_FIELD, HEADER_SIZE, ONES_FIELD, RECORD_SIZE};
 use saved_test::marks::live_count;
-use saved_test::reading::record_from;
+use saved_test::reading::{form_fits, record_from, state_sound_in};
 use saved_test::writing::write_header;
-use walk::{Portion, WIDE};
+use walk::WIDE;
 
 // Words of a part for thresholds with fewer masses each, in place of 769, so that a call on few masses does not set 769 words to zero.
 const SHORT: usize = 32;
 
 const MIDDLE: usize = 128;
 
+// By all that refuses a draw but the room: 15, then 9, 10, 11.
+pub(crate) fn judge_draw(p: &Plan, saved: &[u8], draw: u32) -> Result<(), Refusal>
+    requires { plan_refusal p.now ≡ 0 }
+    ensures { refusal_in result ≡ refusal_on p.now saved.now draw }
+{
+    ensure(form_fits(p, saved), Refusal::SavedForm)?;
+    ensure(draw <= 1, Refusal::Draw)?;
+    ensure(!has_ended(p, saved), Refusal::Ended)?;
+    ensure(state_sound_in(p, saved), Refusal::Spoiled)
+}
+
 // The draw, with a part to walk in.
-fn take_with<'a>(
-    thresholds: &'a [u32; COUNT_LIMIT],
-    allowances: &'a [u64; COUNT_LIMIT],
-    count: usize,
-    portion: Portion,
-    bytes: &[u8],
-    d: u32,
+fn take_with(
+    p: &Plan,
+    saved: &[u8],
+    draw: u32,
     part: &mut [u64],
     lent: &mut [u8],
-) -> Taken
-    requires { Ready thresholds.now allowances.now count portion bytes.now d × PartHoldsOneMore count bytes.now (length part.old) }
-    ensures { (j : Ready thresholds.now allowances.now count portion bytes.now d)
-        → Took j.plan bytes.now d lent.old result lent.new }
+) -> Result<Standing, Refusal>
+    requires { Ready p.now saved.now draw × PartHoldsOneMore p.now.count saved.now (length part.old) }
+    ensures { Took p.now saved.now draw lent.old result lent.new }
 {
-    let n = read_u32(bytes, DRAWS_FIELD) + 1;
-    let ones = read_u32(bytes, ONES_FIELD) + d;
-    if !has_room(
-        thresholds, allowances, count, portion, bytes, n, ones, part, lent,
-    ) {
-        return Taken {
-            refusal: 12,
-            low: 0,
-            high: 0,
-            wide: false,
-        };
-    }
-    let turned = turn_through(
-        thresholds, allowances, count, portion, bytes, n, ones, part, true, lent,
-    );
-    write_header(lent, count, turned.masses, n, ones);
-    let after = turned.standing;
-    Taken {
-        refusal: 0,
-        low: after.low,
-        high: after.high,
-        wide: after.wide,
-    }
+    let n = read_u32(saved, DRAWS_FIELD) + 1;
+    let ones = read_u32(saved, ONES_FIELD) + draw;
+    ensure(has_room(p, saved, n, ones, part, lent), Refusal::Room)?;
+    let turned = turn_through(p, saved, n, ones, part, true, lent);
+    write_header(lent, p.count as usize, turned.masses, n, ones);
+    Ok(turned.standing)
 }
 
-// .. in a part of its own, of the fewest words.
-fn take_in_short<'a>(
-    thresholds: &'a [u32; COUNT_LIMIT],
-    allowances: &'a [u64; COUNT_LIMIT],
-    count: usize,
-    portion: Portion,
-    bytes: &[u8],
-    d: u32,
+// .. in a part of its own, of so many words.
+fn take_in<const WORDS: usize>(
+    p: &Plan,
+    saved: &[u8],
+    draw: u32,
     lent: &mut [u8],
-) -> Taken
-    requires { Ready thresholds.now allowances.now count portion bytes.now d × PartHoldsOneMore count bytes.now short }
-    ensures { (j : Ready thresholds.now allowances.now count portion bytes.now d)
-        → Took j.plan bytes.now d lent.old result lent.new }
+) -> Result<Standing, Refusal>
+    requires { Ready p.now saved.now draw × PartHoldsOneMore p.now.count saved.now WORDS × (WORDS ≤ wide) }
+    ensures { Took p.now saved.now draw lent.old result lent.new }
 {
-    let mut part = [0u64; SHORT];
-    take_with(
-        thresholds, allowances, count, portion, bytes, d, &mut part, lent,
-    )
-}
-
-// .. of more words.
-fn take_in_middle<'a>(
-    thresholds: &'a [u32; COUNT_LIMIT],
-    allowances: &'a [u64; COUNT_LIMIT],
-    count: usize,
-    portion: Portion,
-    bytes: &[u8],
-    d: u32,
-    lent: &mut [u8],
-) -> Taken
-    requires { Ready thresholds.now allowances.now count portion bytes.now d × PartHoldsOneMore count bytes.now middle }
-    ensures { (j : Ready thresholds.now allowances.now count portion bytes.now d)
-        → Took j.plan bytes.now d lent.old result lent.new }
-{
-    let mut part = [0u64; MIDDLE];
-    take_with(
-        thresholds, allowances, count, portion, bytes, d, &mut part, lent,
-    )
-}
-
-// .. of as many as any form needs.
-fn take_in_any<'a>(
-    thresholds: &'a [u32; COUNT_LIMIT],
-    allowances: &'a [u64; COUNT_LIMIT],
-    count: usize,
-    portion: Portion,
-    bytes: &[u8],
-    d: u32,
-    lent: &mut [u8],
-) -> Taken
-    requires { Ready thresholds.now allowances.now count portion bytes.now d }
-    ensures { (j : Ready thresholds.now allowances.now count portion bytes.now d)
-        → Took j.plan bytes.now d lent.old result lent.new }
-{
-    let mut part = [0u64; WIDE];
-    take_with(
-        thresholds, allowances, count, portion, bytes, d, &mut part, lent,
-    )
+    let mut part = [0u64; WORDS];
+    take_with(p, saved, draw, &mut part, lent)
 }
 
 // As many masses as the threshold with the most has; that none has more is all that is asked.
@@ -126,35 +77,35 @@ fn most_masses(bytes: &[u8], count: usize) -> usize
     ensures { (i : ℕ) → i < count → live_count (record_in bytes.now i) ≤ result }
 {
     let mut most: usize = 0;
+    // By places, since a record is read at its offset.
     for i in 0..count {
-        let live = live_count(record_from(bytes, HEADER_SIZE + RECORD_SIZE * i));
-        if most < live {
-            most = live;
-        }
+        most = most.max(live_count(record_from(bytes, HEADER_SIZE + RECORD_SIZE * i)));
     }
     most
 }
 
-// The draw in the smallest of these parts that is enough.
-pub(crate) fn take_in<'a>(
-    thresholds: &'a [u32; COUNT_LIMIT],
-    allowances: &'a [u64; COUNT_LIMIT],
-    count: usize,
-    portion: Portion,
-    bytes: &[u8],
-    d: u32,
-    lent: &mut [u8],
-) -> Taken
-    requires { Ready thresholds.now allowances.now count portion bytes.now d }
-    ensures { (j : Ready thresholds.now allowances.now count portion bytes.now d)
-        → Took j.plan bytes.now d lent.old result lent.new }
+// .. in the smallest of these parts that is enough.
+fn take_in_enough(p: &Plan, saved: &[u8], draw: u32, lent: &mut [u8]) -> Result<Standing, Refusal>
+    requires { Ready p.now saved.now draw }
+    ensures { Took p.now saved.now draw lent.old result lent.new }
 {
-    let most = most_masses(bytes, count);
+    let most = most_masses(saved, p.count as usize);
     if most < SHORT {
-        return take_in_short(thresholds, allowances, count, portion, bytes, d, lent);
+        return take_in::<SHORT>(p, saved, draw, lent);
     }
     if most < MIDDLE {
-        return take_in_middle(thresholds, allowances, count, portion, bytes, d, lent);
+        return take_in::<MIDDLE>(p, saved, draw, lent);
     }
-    take_in_any(thresholds, allowances, count, portion, bytes, d, lent)
+    take_in::<WIDE>(p, saved, draw, lent)
+}
+
+// The answer to the draw, where nothing but the room can refuse it, with the form in the lent bytes.
+pub(crate) fn take(p: &Plan, saved: &[u8], draw: u32, lent: &mut [u8]) -> Result<Answer, Refusal>
+    requires { Ready p.now saved.now draw }
+    ensures { Hands (drawn_on 0 p.now saved.now draw lent.old) result lent.new }
+{
+    let after = take_in_enough(p, saved, draw, lent)?;
+    let n = read_u32(saved, DRAWS_FIELD);
+    let spent = n + 1 == p.horizon;
+    Ok(first_that_fits(p, after.interval, after.wide, spent))
 }

@@ -1,85 +1,76 @@
 // How the records of a test stand to the answer rule (rules 7), one record after the other.
-ghost use Rattle.std.specs.Prelude.{◌≡◌, false, ◌||◌, ◌+◌, ◌*◌, ◌≤◌, max, min, length};
-ghost use Rattle.walk.specs.Numbers.{only, choose};
+ghost use Rattle.std.specs.Prelude.{◌≡◌, true, false, ◌||◌, ◌≤◌, max, min, length};
+ghost use Rattle.walk.specs.Numbers.{lt?, only, choose};
 ghost use Rattle.walk.specs.Units.{million};
 ghost use Rattle.walk.specs.Strings.{Upper, Lower, is_on};
-ghost use Rattle.plan.specs.Places.{eq?};
-ghost use Rattle.plan.specs.Plan.{count_limit, bucket_limit};
+ghost use Rattle.plan.specs.Plan.{count_limit, plan_refusal};
 ghost use Rattle.bucket_test.specs.Turn.{wide_open};
 ghost use Rattle.bucket_test.specs.Answers.{answer_of, is_ending};
 ghost use Rattle.saved_test.specs.Form.{record_offset};
-ghost use Rattle.saved_test.specs.Reading.{record_in, state_in};
+ghost use Rattle.saved_test.specs.Reading.{record_in, state_in, form_fits};
 ghost use Rattle.calls.specs.Inner.{Seen};
 
 use crate::Standing;
+use bucket_choice::choosing::Interval;
 use bucket_test::Threshold;
-use bucket_test::answering::{Interval, first_that_fits, narrowed, wide_open};
+use bucket_test::answering::{first_that_fits, narrowed, wide_open};
 use bucket_test::drawing::is_ending;
-use plan::{BUCKET_LIMIT, COUNT_LIMIT, Plan};
-use saved_test::form::{HEADER_SIZE, RECORD_SIZE};
+use little::numbers::read_u32;
+use plan::Plan;
+use saved_test::form::{DRAWS_FIELD, HEADER_SIZE, RECORD_SIZE};
 use saved_test::reading::record_from;
 use walk::MILLION;
 
-// Of no records.
-pub(crate) fn unseen() -> Standing
-    ensures { result ≡ record { low = 0; high = million; wide = false } }
-{
-    Standing {
-        low: 0,
-        high: MILLION,
-        wide: false,
+impl Standing {
+    // Of no records.
+    pub(crate) fn unseen() -> Standing
+        ensures { result ≡ record { interval = record { low = 0; high = million }; wide = false } }
+    {
+        let interval = Interval {
+            low: 0,
+            high: MILLION,
+        };
+        Standing {
+            interval,
+            wide: false,
+        }
+    }
+
+    // .. and of one more, that of the threshold a.
+    pub(crate) fn seen(self, t: Threshold, a: u32) -> Standing
+        requires { self.interval.high ≤ million }
+        ensures { (result.interval.low ≡ max self.interval.low (only (is_on Upper t.mark) a))
+            × (result.interval.high ≡ min self.interval.high (choose (is_on Lower t.mark) a million))
+            × (result.wide ≡ (self.wide || wide_open t)) }
+    {
+        Standing {
+            interval: narrowed(self.interval, t.mark, a),
+            wide: self.wide || wide_open(t),
+        }
     }
 }
 
-// .. and of one more, that of the threshold a.
-pub(crate) fn seen(s: Standing, t: Threshold, a: u32) -> Standing
-    requires { s.high ≤ million }
-    ensures { (result.low ≡ max s.low (only (is_on Upper t.mark) a)) × (result.high ≡ min s.high (choose (is_on Lower t.mark) a million))
-        × (result.wide ≡ (s.wide || wide_open t)) }
+// Of the records that bytes hold, under a plan with at most ten thresholds.
+fn standing_in(p: &Plan, bytes: &[u8]) -> Standing
+    requires { (p.now.count ≤ count_limit) × (record_offset p.now.count ≤ length bytes.now) }
+    ensures { Seen p.now p.now.count (record_in bytes.now) result }
 {
-    let mark = t.mark;
-    let before = Interval {
-        low: s.low,
-        high: s.high,
-    };
-    let v = narrowed(before, mark, a);
-    let wide = s.wide || wide_open(t);
-    Standing {
-        low: v.low,
-        high: v.high,
-        wide: wide,
-    }
-}
-
-// Of so many records that bytes hold, with the first of these thresholds, of at most ten.
-fn standing_in(thresholds: &[u32; COUNT_LIMIT], count: usize, bytes: &[u8]) -> Standing
-    requires { (count ≤ count_limit) × (record_offset count ≤ length bytes.now) }
-    ensures { Seen thresholds.now count (record_in bytes.now) result }
-{
-    let mut s = unseen();
+    let count = p.count as usize;
+    let mut s = Standing::unseen();
+    // By places, since a record is read at its offset.
     for i in 0..count {
         let t = record_from(bytes, HEADER_SIZE + RECORD_SIZE * i);
-        s = seen(s, t, thresholds[i]);
+        s = s.seen(t, p.thresholds[i]);
     }
     s
 }
 
-// Whether the test that bytes hold has ended, by the answer rule, under a plan with these tables; `spent` says that n is the horizon.
-pub(crate) fn has_ended<'a>(
-    thresholds: &'a [u32; COUNT_LIMIT],
-    lefts: &'a [u32; BUCKET_LIMIT],
-    rights: &'a [u32; BUCKET_LIMIT],
-    count: usize,
-    buckets: u32,
-    spent: bool,
-    bytes: &[u8],
-) -> bool
-    requires { (count ≤ count_limit) × (record_offset count ≤ length bytes.now) × (buckets ≤ bucket_limit) }
-    ensures { (p : Plan) → p.thresholds ≡ thresholds.now → p.left ≡ lefts.now → p.right ≡ rights.now
-        → p.count ≡ count → p.buckets ≡ buckets → spent ≡ eq? (state_in p bytes.now).n p.horizon
-        → result ≡ is_ending (answer_of p (state_in p bytes.now)) }
+// Whether the test that bytes hold has ended, by the answer rule.
+pub(crate) fn has_ended(p: &Plan, bytes: &[u8]) -> bool
+    requires { (plan_refusal p.now ≡ 0) × (form_fits p.now bytes.now ≡ true) }
+    ensures { result ≡ is_ending (answer_of p.now (state_in p.now bytes.now)) }
 {
-    let s = standing_in(thresholds, count, bytes);
-    let answer = first_that_fits(s.low, s.high, s.wide, spent, lefts, rights, buckets);
-    is_ending(answer)
+    let s = standing_in(p, bytes);
+    let spent = read_u32(bytes, DRAWS_FIELD) == p.horizon;
+    is_ending(first_that_fits(p, s.interval, s.wide, spent))
 }

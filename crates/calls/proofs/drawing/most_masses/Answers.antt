@@ -1,14 +1,11 @@
 -- None of the thresholds before place i has more.
 use mathlib.Core.Path.{◌≡◌, ap, ◌∙◌}
 use mathlib.Core.Logic.{⊎_elim}
-use Prim.Native.Nat.{◌≤◌}
 use native.Mathlib.Omega.{arith}
-use borrow.Author.Rules.{rules}
 use Rattle.plan.proofs.PlaceLaws.{le_or_lt}
 use Rattle.bucket_test.specs.declared.Threshold.{Threshold}
 use Rattle.saved_test.specs.Form.{record_offset, live_count}
 use Rattle.saved_test.specs.Reading.{record_in}
-use Rattle.calls.proofs.drawing.most_masses.Goals.{then-most-live, else-most-live}
 use Rattle.calls.proofs.drawing.most_masses.Goals as goal
 
 pub loop-i-init : goal.loop-i-init
@@ -22,13 +19,10 @@ pub loop-i-preserved : goal.loop-i-preserved
 unfolding record_offset
 loop-i-preserved c =
     let l = c.loop-i in
-    let live = c.live_count-live in
-    let here : live.result ≡ live_count (record_in _ l.i) = live.ensures.0 ∙ ap (λ (t : Threshold). live_count t) c.record_from.ensures in
-    let up : (l.most ≤ c.if-most-live.most) × (live.result ≤ c.if-most-live.most) =
-    elim c.if-most-live.branch [ then-most-live w ↦ (omega arith, omega arith) | else-most-live w ↦ (omega arith, omega arith) ] in (
-      search rules,
+    let here : c.live_count.result ≡ live_count (record_in _ l.i) = c.live_count.ensures.0 ∙ ap (λ (t : Threshold). live_count t) c.record_from.ensures in (
+      omega (arith, c.loop-i-test.true),
       λ k h.
-          ⊎_elim (λ g. let e : k ≡ l.i = omega arith in rw e (omega (arith, here, up.1))) (λ g. omega (arith, l.invariant.1 k g, up.0)) (le_or_lt l.i k),
+          ⊎_elim (λ g. let e : k ≡ l.i = omega arith in rw e (omega (arith, here, c.max-most.ensures))) (λ g. omega (arith, l.invariant.1 k g, c.max-most.ensures)) (le_or_lt l.i k),
     )
 
 pub returns : goal.returns

@@ -13,8 +13,8 @@ pub record_from-t-requires : goal.record_from-t-requires
 unfolding record_offset
 record_from-t-requires c = omega (arith, c.requires.1, c.loop-i-test.true)
 
-pub bounds-thresholds-i : goal.bounds-thresholds-i
-bounds-thresholds-i c = omega (arith, c.requires.0, c.loop-i-test.true)
+pub bounds-p-i : goal.bounds-p-i
+bounds-p-i c = omega (arith, c.requires.0, c.loop-i-test.true)
 
 pub seen-s-requires : goal.seen-s-requires
 seen-s-requires c = c.loop-i.invariant.2
@@ -32,5 +32,5 @@ loop-i-preserved c =
 pub returns : goal.returns
 returns c =
     let l = c.loop-i in
-    let e : l.i ≡ c.args.count = omega (arith, l.invariant.0, c.loop-i-test.false) in
+    let e : l.i ≡ c.args.p.now.count = omega (arith, l.invariant.0, c.loop-i-test.false) in
     rw e at l.invariant.1

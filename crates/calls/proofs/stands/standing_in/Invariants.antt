@@ -6,7 +6,7 @@ use Rattle.calls.specs.Inner.{Seen}
 use Rattle.calls.proofs.stands.standing_in.Given as goal
 
 abbrev pub invariant-loop-i : goal.invariant-loop-i
-invariant-loop-i l = (l.i ≤ l.count) × Seen l.thresholds l.i (record_in l.bytes) l.s × (l.s.high ≤ million)
+invariant-loop-i l = (l.i ≤ l.count) × Seen l.p l.i (record_in l.bytes) l.s × (l.s.interval.high ≤ million)
 
 abbrev pub decreases-loop-i : goal.decreases-loop-i
 decreases-loop-i l = l.count - l.i

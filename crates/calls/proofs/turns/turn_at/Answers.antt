@@ -1,21 +1,34 @@
--- The masses are read, then the threshold has its turn.
-use mathlib.Core.Path.{◌≡◌, ◌∙◌}
-use Rattle.little.specs.Little.{column, filled}
-use Rattle.saved_test.specs.Form.{mass_size, live_count}
-use Rattle.calls.proofs.turns.turn_at.Goals.{After-front_in}
+-- The places of an accepted plan are inside its tables.
+use native.Mathlib.Omega.{arith}
+use mathlib.Core.Path.{◌≡◌}
+use Rattle.plan.specs.Plan.{spending_of}
+use Rattle.plan.proofs.AcceptedLaws.{accepted}
+use Rattle.plan.proofs.SpendingLaws.{spent_is, may_spend}
+use Rattle.calls.proofs.turns.turn_at.Goals.{After-spending_at-e}
 use Rattle.calls.proofs.turns.turn_at.Goals as goal
 
-pub front_in-requires : goal.front_in-requires
-front_in-requires c = rw c.live_count.ensures.0 (c.requires.0, c.requires.1)
+pub offset_bounds-p-i : goal.offset_bounds-p-i
+offset_bounds-p-i c = let k = ((accepted _).0 c.requires.0).count_range.1 in record { fits = omega (arith, k, c.requires.1) }
 
--- the part once the masses are read
-front-is : (c : After-front_in)
-    → let a = c.args in
-    c.front_in.new.part ≡ filled (live_count a.t) (column mass_size a.at mass_size a.bytes.now) a.part.now
-front-is c = c.front_in.ensures ∙ rw c.live_count.ensures.0
+pub bounds-p-i : goal.bounds-p-i
+bounds-p-i c = let k = ((accepted _).0 c.requires.0).count_range.1 in omega (arith, k, c.requires.1)
+
+pub portion_at-requires : goal.portion_at-requires
+portion_at-requires c = ((accepted _).0 c.requires.0).points_sound.few
+
+pub spending_at-e-requires : goal.spending_at-e-requires
+spending_at-e-requires c =
+    may_spend _ ((accepted _).0 c.requires.0) c.args.i c.args.n c.requires.1 c.requires.2 _ c.portion_at.ensures
+
+pub bounds-p-i-2 : goal.bounds-p-i-2
+bounds-p-i-2 c = let k = ((accepted _).0 c.requires.0).count_range.1 in omega (arith, k, c.requires.1)
+
+-- what may be spent by then
+spent : (c : After-spending_at-e) → c.spending_at-e.result ≡ spending_of c.args.p.now c.args.i c.args.n
+spent c = spent_is c.args.p.now c.args.i c.args.n _ _ c.portion_at.ensures c.spending_at-e.ensures
 
 pub turn_front-requires : goal.turn_front-requires
-turn_front-requires c = rw (front-is (goal.at.turn_front-requires c).After-front_in) c.requires.2
+turn_front-requires c = rw (spent (goal.at.turn_front-requires c).After-spending_at-e) c.requires.3
 
 pub returns : goal.returns
-returns c = rw (← front-is (goal.at.returns c).After-front_in) c.turn_front.ensures
+returns c = rw (spent (goal.at.returns c).After-spending_at-e) at c.turn_front.ensures

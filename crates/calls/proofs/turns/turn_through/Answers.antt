@@ -1,21 +1,25 @@
 -- The turns of the thresholds before place i are taken; where it writes, their masses stand behind the place of the records, and their records
 -- behind the header's.
 use mathlib.Core.Path.{◌≡◌, refl, sym, ◌∙◌}
-use Prim.Native.Nat.{ℕ, ◌+◌, ◌*◌, ◌≤◌, ◌<◌}
+use Prim.Native.Nat.{◌+◌, ◌*◌, ◌≤◌, ◌<◌}
 use native.Mathlib.Omega.{arith}
 use lib.ListN.{length, take}
 use Rattle.walk.specs.Units.{million, wide}
 use Rattle.plan.specs.Plan.{count_limit}
 use Rattle.plan.specs.Places.{join_to}
-use Rattle.bucket_test.specs.declared.Threshold.{Threshold}
 use Rattle.little.proofs.Putting.{put_none}
 use Rattle.saved_test.specs.Form.{record_size, mass_size, header_size, record_offset, form_size, live_count, masses_to}
 use Rattle.saved_test.specs.Reading.{record_in, mass_offset}
 use Rattle.saved_test.proofs.ReadingLaws.{offset_first}
-use Rattle.calls.proofs.TurnLaws.{seen_none, seen_next, next, parts, offset, may_turn, turned, old_next, old_small, new_few, new_room, new_live, new_masses_lem, new_inside, entries_next, entries_last}
-use borrow.Author.Rules.{rules}
-use Rattle.calls.proofs.turns.turn_through.Goals.{After-live_count, After-live_count-live, After-spending_at-e}
+use Rattle.calls.proofs.TurnLaws.{seen_none, seen_next, few, next, parts, offset, may_read, may_turn, turned, old_next, old_small, new_few, new_room, new_live, new_masses_lem, new_inside, entries_next, entries_last}
+use Rattle.calls.proofs.turns.turn_through.Goals.{In-loop-i, After-front_in, After-live_count-live}
 use Rattle.calls.proofs.turns.turn_through.Goals as goal
+
+pub overflow_mul-front : goal.overflow_mul-front
+overflow_mul-front c = omega (arith, few c.requires.0)
+
+pub overflow_add-front : goal.overflow_add-front
+overflow_add-front c = omega (arith, few c.requires.0)
 
 pub loop-i-init : goal.loop-i-init
 unfolding join_to masses_to million
@@ -25,11 +29,11 @@ loop-i-init c =
       inside = omega arith;
       part_size = refl;
       lent_size = refl;
-      at_is = offset_first a.bytes.now a.count;
+      at_is = offset_first a.bytes.now a.p.now.count;
       masses_are = refl;
-      seen = seen_none a.thresholds.now _ _ c.unseen-standing.ensures;
+      seen = seen_none a.p.now _ _ c.unseen-standing.ensures;
       high = rw c.unseen-standing.ensures (omega arith);
-      lent_is = λ _. rw (put_none (record_offset a.count) a.lent.now) (sym (put_none header_size a.lent.now));
+      lent_is = λ _. rw (put_none (record_offset a.p.now.count) a.lent.now) (sym (put_none header_size a.lent.now));
       kept = λ _. refl;
     }
 
@@ -37,149 +41,115 @@ pub record_from-t-requires : goal.record_from-t-requires
 unfolding form_size record_offset
 record_from-t-requires c = omega (arith, c.requires.0.form.sized, c.loop-i-test.true)
 
-pub bounds-allowances-i : goal.bounds-allowances-i
-bounds-allowances-i c = omega (arith, c.requires.0.few, c.loop-i-test.true)
+-- ---- the threshold at place i
 
-pub spending_at-e-requires : goal.spending_at-e-requires
-spending_at-e-requires c =
-    let j = c.requires.0 in
-    (j.allowed c.loop-i.i c.loop-i-test.true, j.spendable.0, j.spendable.1)
-
--- the threshold at place i before its turn, its spending known
-module _ (c : After-spending_at-e) where
+module _ (c : In-loop-i) where
   place : c.loop-i.i < count_limit
-  place = omega (arith, c.requires.0.few, c.loop-i-test.true)
-
-  is : c.record_from-t.result ≡ record_in c.args.bytes.now c.loop-i.i
-  unfolding record_offset
-  is = c.record_from-t.ensures
+  place = omega (arith, few c.requires.0, c.loop-i-test.true)
 
   room : live_count (record_in c.args.bytes.now c.loop-i.i) < length c.loop-i.part
   room = omega (arith, c.requires.1 c.loop-i.i c.loop-i-test.true, c.loop-i.invariant.part_size)
 
-pub bounds-thresholds-i : goal.bounds-thresholds-i
-bounds-thresholds-i c = place (goal.at.bounds-thresholds-i c).After-spending_at-e
+pub front_in-requires : goal.front_in-requires
+unfolding record_offset
+front_in-requires c =
+    let l = c.loop-i in
+    may_read c.requires.0 l.i c.loop-i-test.true _ c.record_from-t.ensures _ c.live_count-had.ensures.0 l.at l.invariant.at_is l.part (room (goal.at.front_in-requires c).In-loop-i)
 
 pub turn_at-next-requires : goal.turn_at-next-requires
+unfolding record_offset
 turn_at-next-requires c =
-    let here = (goal.at.turn_at-next-requires c).After-spending_at-e in
     let l = c.loop-i in
-    may_turn _ _ _ _ _ _ _ c.requires.0 c.loop-i.i c.loop-i-test.true _ (is here) l.at l.invariant.at_is l.part (room here) _ c.spending_at-e.ensures
+    let j = c.requires.0 in
+    (j.judged, c.loop-i-test.true, j.in_time, may_turn j l.i c.loop-i-test.true _ c.record_from-t.ensures _ c.live_count-had.ensures.0 l.at l.invariant.at_is l.part (room (goal.at.turn_at-next-requires c).In-loop-i) _ c.front_in.ensures)
 
--- .. and after it
+-- .. after its turn
 module _ (c : After-live_count-live) where
-  -- as it was before
-  was : c.record_from-t.result ≡ record_in c.args.bytes.now c.loop-i.i
+  result : (c.turn_at-next.result ≡ next c.requires.0 c.loop-i.i)
+      × (take (live_count c.turn_at-next.result) c.turn_at-next.new.part ≡ take (live_count c.turn_at-next.result) (parts c.requires.0 c.loop-i.i))
   unfolding record_offset
-  was = c.record_from-t.ensures
-
-  lent : live_count (record_in c.args.bytes.now c.loop-i.i) < length c.loop-i.part
-  lent = omega (arith, c.requires.1 c.loop-i.i c.loop-i-test.true, c.loop-i.invariant.part_size)
-
-  abbrev made : Threshold
-  made = c.turn_at-next.result
-
-  abbrev live : ℕ
-  live = c.live_count-live.result
-
-  abbrev masses : ℕ
-  masses = c.loop-i.masses
-
-  result : (made ≡ next _ _ _ _ _ _ _ c.requires.0 c.loop-i.i)
-      × (take (live_count made) c.turn_at-next.new.part ≡ take (live_count made) (parts _ _ _ _ _ _ _ c.requires.0 c.loop-i.i))
   result =
       let l = c.loop-i in
       let e = c.turn_at-next.ensures in
-      turned _ _ _ _ _ _ _ c.requires.0 c.loop-i.i c.loop-i-test.true _ was l.at l.invariant.at_is l.part lent _ c.spending_at-e.ensures _ _ e.0 e.1
+      let held : live_count (record_in c.args.bytes.now l.i) < length l.part = omega (arith, c.requires.1 l.i c.loop-i-test.true, l.invariant.part_size) in
+      turned c.requires.0 l.i c.loop-i-test.true _ c.record_from-t.ensures _ c.live_count-had.ensures.0 l.at l.invariant.at_is l.part held _ c.front_in.ensures _ _ e.0 e.1
 
-  few : (live ≤ wide) × (masses ≤ wide * c.loop-i.i)
-  few =
+  small : (c.live_count-live.result ≤ wide) × (c.loop-i.masses ≤ wide * c.loop-i.i) × (c.live_count-live.result ≤ length c.turn_at-next.new.part)
+  small =
       let l = c.loop-i in (
-        new_live _ _ _ _ _ _ _ c.requires.0 c.loop-i.i c.loop-i-test.true _ result.0 _ c.live_count-live.ensures.0,
-        omega (arith, l.invariant.masses_are, new_few _ _ _ _ _ _ _ c.requires.0 c.loop-i.i l.invariant.inside),
+        new_live c.requires.0 l.i c.loop-i-test.true _ result.0 _ c.live_count-live.ensures.0,
+        omega (arith, l.invariant.masses_are, new_few c.requires.0 l.i l.invariant.inside),
+        omega (arith, new_room c.requires.0 l.i c.loop-i-test.true _ result.0 _ c.live_count-live.ensures.0, c.requires.1 l.i c.loop-i-test.true, l.invariant.part_size, c.front_in.auto.part, c.turn_at-next.auto.part),
       )
 
-  grows : live ≤ length c.loop-i.part
-  grows = omega (arith, new_room _ _ _ _ _ _ _ c.requires.0 c.loop-i.i c.loop-i-test.true _ result.0 _ c.live_count-live.ensures.0, lent)
-
-  to_is : header_size + record_size * c.args.count + mass_size * masses ≡ offset _ _ _ _ _ _ _ c.requires.0 c.loop-i.i
+  to_is : header_size + record_size * c.args.p.now.count + mass_size * c.loop-i.masses ≡ offset c.requires.0 c.loop-i.i
   unfolding record_offset
   to_is = omega (arith, c.loop-i.invariant.masses_are)
 
 pub overflow_mul-to : goal.overflow_mul-to
 unfolding wide
-overflow_mul-to c = omega (arith, (few (goal.at.overflow_mul-to c).After-live_count-live).1, place (goal.at.overflow_mul-to c).After-spending_at-e)
+overflow_mul-to c = omega (arith, (small (goal.at.overflow_mul-to c).After-live_count-live).1, place (goal.at.overflow_mul-to c).In-loop-i)
 
 pub overflow_add-to : goal.overflow_add-to
 unfolding wide
-overflow_add-to c = omega (arith, (few (goal.at.overflow_add-to c).After-live_count-live).1, place (goal.at.overflow_add-to c).After-spending_at-e, c.requires.0.few)
+overflow_add-to c = omega (arith, (small (goal.at.overflow_add-to c).After-live_count-live).1, place (goal.at.overflow_add-to c).In-loop-i, few c.requires.0)
 
 pub put_turned-requires : goal.put_turned-requires
 unfolding form_size record_offset
 put_turned-requires c =
-    let at_after_spending_at_e = (goal.at.put_turned-requires c).After-spending_at-e in
-    let at_after_live_count_live = (goal.at.put_turned-requires c).After-live_count-live in
+    let here = (goal.at.put_turned-requires c).After-live_count-live in
     let size = c.loop-i.invariant.lent_size in (
-      place at_after_spending_at_e,
+      place (goal.at.put_turned-requires c).In-loop-i,
       λ on. (
-        omega (arith, grows at_after_live_count_live),
-        omega (arith, new_inside _ _ _ _ _ _ _ c.requires.0 c.loop-i.i c.loop-i-test.true _ (result at_after_live_count_live).0 _ c.live_count-live.ensures.0 _ (to_is at_after_live_count_live), c.requires.2 on, size),
+        (small here).2,
+        omega (arith, new_inside c.requires.0 c.loop-i.i c.loop-i-test.true _ (result here).0 _ c.live_count-live.ensures.0 _ (to_is here), c.requires.2 on, size),
         omega (arith, c.requires.2 on, size, c.loop-i-test.true),
       ),
     )
 
-pub offset_bounds-thresholds-i-in-loop-i : goal.offset_bounds-thresholds-i-in-loop-i
-offset_bounds-thresholds-i-in-loop-i c = record { fits = omega (arith, place (goal.at.offset_bounds-thresholds-i-in-loop-i c).After-spending_at-e) }
-
-pub bounds-thresholds-i-in-loop-i : goal.bounds-thresholds-i-in-loop-i
-bounds-thresholds-i-in-loop-i c = place (goal.at.bounds-thresholds-i-in-loop-i c).After-spending_at-e
+pub bounds-p-i : goal.bounds-p-i
+bounds-p-i c = place (goal.at.bounds-p-i c).In-loop-i
 
 pub seen-standing-requires : goal.seen-standing-requires
 seen-standing-requires c = c.loop-i.invariant.high
 
 pub overflow_add-masses : goal.overflow_add-masses
 unfolding wide
-overflow_add-masses c = let b = (goal.at.overflow_add-masses c).After-live_count-live in omega (arith, (few b).0, (few b).1, place (goal.at.overflow_add-masses c).After-spending_at-e)
+overflow_add-masses c = let b = small (goal.at.overflow_add-masses c).After-live_count-live in omega (arith, b.0, b.1, place (goal.at.overflow_add-masses c).In-loop-i)
 
 -- where the next old masses stand
-module _ (c : After-live_count) where
-  before : c.record_from-t.result ≡ record_in c.args.bytes.now c.loop-i.i
-  unfolding record_offset
-  before = c.record_from-t.ensures
-
-  old : let a = c.args in
-      let at = c.loop-i.at in
-      (at + 8 * c.live_count.result ≤ length a.bytes.now) × (at + 8 * c.live_count.result ≡ mass_offset a.bytes.now a.count (c.loop-i.i + 1))
-  old =
-      let l = c.loop-i in
-      old_next _ _ _ _ _ _ _ c.requires.0 c.loop-i.i c.loop-i-test.true _ before _ l.at c.live_count.ensures.0 l.invariant.at_is
+old : (c : After-front_in) → let a = c.args in
+    (c.loop-i.at + mass_size * c.live_count-had.result ≤ length a.bytes.now)
+    × (c.loop-i.at + mass_size * c.live_count-had.result ≡ mass_offset a.bytes.now a.p.now.count (c.loop-i.i + 1))
+unfolding record_offset
+old c =
+    let l = c.loop-i in
+    old_next c.requires.0 l.i c.loop-i-test.true _ c.record_from-t.ensures _ l.at c.live_count-had.ensures.0 l.invariant.at_is
 
 pub overflow_mul-at : goal.overflow_mul-at
-overflow_mul-at c = omega (arith, (old (goal.at.overflow_mul-at c).After-live_count).0)
+overflow_mul-at c = omega (arith, (old (goal.at.overflow_mul-at c).After-front_in).0)
 
 pub overflow_add-at : goal.overflow_add-at
-overflow_add-at c = omega (arith, (old (goal.at.overflow_add-at c).After-live_count).0, old_small _ _ _ _ _ _ _ c.requires.0)
+overflow_add-at c = omega (arith, (old (goal.at.overflow_add-at c).After-front_in).0, old_small c.requires.0)
 
 pub loop-i-preserved : goal.loop-i-preserved
 loop-i-preserved c =
-    let at_after_spending_at_e = (goal.at.loop-i-preserved c).After-spending_at-e in
-    let at_after_live_count_live = (goal.at.loop-i-preserved c).After-live_count-live in
+    let here = (goal.at.loop-i-preserved c).After-live_count-live in
     let j = c.requires.0 in
     let l = c.loop-i in
-    let r = result at_after_live_count_live in
+    let r = result here in
     let put = c.put_turned.ensures in
     let e = c.seen-standing.ensures in
     record {
       inside = omega (arith, c.loop-i-test.true);
-      part_size = search rules;
-      lent_size = omega (arith, l.invariant.lent_size);
-      at_is = (old (goal.at.loop-i-preserved c).After-live_count).1;
-      masses_are = rw l.invariant.masses_are (new_masses_lem _ _ _ _ _ _ _ j c.loop-i.i c.loop-i-test.true _ r.0 _ c.live_count-live.ensures.0);
-      seen = seen_next _ _ c.loop-i.i l.standing _ _ r.0 l.invariant.seen e.0 e.1 e.2;
+      part_size = omega (arith, l.invariant.part_size, c.front_in.auto.part, c.turn_at-next.auto.part);
+      lent_size = omega (arith, l.invariant.lent_size, c.put_turned.auto.lent);
+      at_is = (old (goal.at.loop-i-preserved c).After-front_in).1;
+      masses_are = rw l.invariant.masses_are (new_masses_lem j l.i c.loop-i-test.true _ r.0 _ c.live_count-live.ensures.0);
+      seen = seen_next _ _ l.i l.standing _ _ r.0 l.invariant.seen e.0 e.1 e.2;
       high = omega (arith, e.1, l.invariant.high);
       lent_is = λ on.
-          entries_next _ _ _ _ _ _ _ j c.loop-i.i c.loop-i-test.true _ r.0 _ c.live_count-live.ensures.0 _ (to_is at_after_live_count_live) _ r.1 c.args.lent.now l.lent _ (l.invariant.lent_is on)
-          (put.0 on) (c.requires.2 on);
+          entries_next j l.i c.loop-i-test.true _ r.0 _ c.live_count-live.ensures.0 _ (to_is here) _ r.1 c.args.lent.now l.lent _ (l.invariant.lent_is on) (put.0 on) (c.requires.2 on);
       kept = λ off. put.1 off ∙ l.invariant.kept off;
     }
 
@@ -187,5 +157,5 @@ pub returns : goal.returns
 unfolding form_size
 returns c =
     let l = c.loop-i in
-    let e : l.i ≡ c.args.count = omega (arith, l.invariant.inside, c.loop-i-test.false) in
-    (rw e at l.invariant.masses_are, rw e at l.invariant.seen, λ on. entries_last _ _ _ _ _ _ _ c.requires.0 c.args.lent.now l.lent (rw e at (l.invariant.lent_is on)) (omega (arith, c.requires.2 on)), l.invariant.kept)
+    let e : l.i ≡ c.args.p.now.count = omega (arith, l.invariant.inside, c.loop-i-test.false) in
+    (rw e at l.invariant.masses_are, rw e at l.invariant.seen, λ on. entries_last c.requires.0 c.args.lent.now l.lent (rw e at (l.invariant.lent_is on)) (omega (arith, c.requires.2 on)), l.invariant.kept)

@@ -1,7 +1,7 @@
--- The three numbers themselves.
+-- The whole interval.
 use mathlib.Core.Path.{refl}
 use Rattle.walk.specs.Units.{million}
-use Rattle.calls.proofs.stands.unseen.Goals as goal
+use Rattle.calls.proofs.Standing.unseen.Goals as goal
 
 pub returns : goal.returns
 unfolding million
