@@ -186,13 +186,3 @@ impl Plan {
         ensure(self.buckets_cover(), Refusal::Cover)
     }
 }
-
-// The number of that rule, 0 for none.
-pub fn plan_refusal(p: Plan) -> u32
-    ensures { result ≡ plan_refusal p }
-{
-    match p.judge() {
-        Ok(()) => 0,
-        Err(refusal) => refusal.number(),
-    }
-}
