@@ -23,7 +23,8 @@ rises : (p : Plan) (j : ℕ) → PointFits p j → (step_before p j < step_at p 
 rises p zero h = (omega (arith, h.0.0), omega arith)
 rises p (suc j) h = h.1.1
 
-fit : (p : Plan) (j : ℕ) → step_before p j < step_at p j → step_at p j ≤ p.horizon → share_before p j ≤ share_at p j → share_at p j ≤ million → point_fits p j ≡ true
+fit : (p : Plan) (j : ℕ) → step_before p j < step_at p j → step_at p j ≤ p.horizon → share_before p j ≤ share_at p j → share_at p j ≤ million
+    → point_fits p j ≡ true
 fit p zero a b c d = (point_says p 0).1 ((omega arith, b), (d, tt))
 fit p (suc j) a b c d = (point_says p (suc j)).1 ((omega arith, b), (d, (a, c)))
 

@@ -54,4 +54,6 @@ loop-t-preserved c =
 pub returns : goal.returns
 unfolding rule2
 returns c =
-    sought_nowhere false _ c.loop-t.invariant.rising (omega (arith, taken_all c.args.self.now.thresholds c.args.self.now.count 0 c.counted_thresholds-t-items.ensures (omega arith), c.loop-t-test.false))
+    let p = c.args.self.now in
+    let long = taken_all p.thresholds p.count 0 c.counted_thresholds-t-items.ensures (omega arith) in
+    sought_nowhere false _ c.loop-t.invariant.rising (omega (arith, long, c.loop-t-test.false))
