@@ -1,7 +1,6 @@
 // The plan's rules: refusals 1, 2, 14, 3, 4, 16, 5, 6 in this order, each over all entries before the next (rules 1.4, 8.2). Places past a
 // count are not read.
 ghost use Rattle.std.specs.Prelude.{◌≡◌, ◌≤◌, take};
-ghost use Rattle.walk.specs.Units.{allowance_limit};
 ghost use Rattle.plan.specs.Places.{within};
 ghost use Rattle.plan.specs.Plan.{count_limit, bucket_limit, counts_fit, rule2, rule14, rule3, rule4, rule16, permitted, rule5, covered_above, rule6, plan_refusal};
 ghost use Rattle.plan.specs.Tables.{ends_fit};
@@ -24,7 +23,7 @@ const MOST_POINTS: u32 = POINT_LIMIT as u32;
 pub fn within(x: u32, lo: u32, hi: u32) -> bool
     ensures { result ≡ within lo hi x }
 {
-    lo <= x && x <= hi
+    (lo..=hi).contains(&x)
 }
 
 // Rule 1, of any counts: so many thresholds and so many buckets. It is also the stored form's rule 1.
@@ -32,12 +31,6 @@ pub fn counts_fit(count: u32, buckets: u32) -> bool
     ensures { result ≡ counts_fit count buckets }
 {
     within(count, 1, MOST_THRESHOLDS) && within(buckets, 2, MOST_BUCKETS)
-}
-
-fn allowance_fits(allowance: u64) -> bool
-    ensures { result ≡ within 1 allowance_limit allowance }
-{
-    1 <= allowance && allowance <= ALLOWANCE_LIMIT
 }
 
 impl Plan {
@@ -89,7 +82,7 @@ impl Plan {
     {
         self.allowances[..self.count as usize]
             .iter()
-            .all(|&allowance| allowance_fits(allowance))
+            .all(|allowance| (1..=ALLOWANCE_LIMIT).contains(allowance))
     }
 
     // Rule 4: delay and horizon in their ranges.
