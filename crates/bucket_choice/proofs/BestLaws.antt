@@ -1,15 +1,19 @@
--- Of the places before n, the first of the narrowest that contain the interval: there is one unless none does, and the loop of
--- src/choosing.rt holds it.
-use mathlib.Core.Path.{◌≡◌, refl, sym}
-use mathlib.Core.Bool.{Bool, true, false}
+-- Of the places before n, the first of the narrowest that contain the interval: there is one unless none does, and `min_by_key` picks it.
+use mathlib.Core.Path.{◌≡◌, refl}
+use mathlib.Core.Bool.{Bool, cond, true, false}
+use mathlib.Core.List.{◌∷◌}
 use mathlib.Core.Logic.{◌⊎◌, inl, inr, ⊎_elim}
-use Prim.Native.Nat.{ℕ, zero, suc, ◌≤◌, ◌<◌}
+use Prim.Native.Nat.{ℕ, zero, suc, ◌+◌, ◌≤◌, ◌<◌}
+use native.Mathlib.Numerals.{add-one}
 use native.Mathlib.Nat.{eq-or-lt_of_le}
 use native.Mathlib.Omega.{arith}
 use Rattle.plan.proofs.PlaceLaws.{le_or_lt}
 use Rattle.std.specs.Prelude.{Option, Some, None}
-use Rattle.std.specs.Option.{is_some}
-use Rattle.walk.proofs.Tests.{clash}
+use Rattle.std.proofs.Common.{Ordering, Less, Equal, Greater}
+use Rattle.std.specs.Ordering.{nat_cmp, min_by_ordering, MatchOrdering}
+use Rattle.std.specs.Cmp.{ranked}
+use Rattle.std.specs.List.{filter, fold, reduce, range_with_len}
+use Rattle.bucket_choice.proofs.ByKey.{lesser}
 use Rattle.bucket_choice.specs.Choice.{width_at, contains, chosen_bucket, named}
 use Rattle.bucket_choice.specs.Chosen.{Contains, Chosen}
 use Rattle.plan.specs.declared.Plan.{Plan}
@@ -79,37 +83,60 @@ module _ (p : Plan) (low high : ℕ) where
       ⊎_elim (λ none. inr (λ j h. none j h.inside h))
       (λ s. let c : Chosen p low high s.0 = best_chosen s.1 in inl (rw (chosen_found p low high c) c)) (found p.buckets (omega arith))
 
--- ---- a loop that has looked at the places before n holds none, or the best of them with its width
+-- ---- the first of the least by width, of the places that contain the interval
 
-pub data Held (p : Plan) (low high n : ℕ) : Option ℕ → ℕ → Type 0 where
-  nothing : {w : ℕ} → NoneTo p low high n → Held p low high n None w
-  best : {k w : ℕ} → BestTo p low high n k → w ≡ width_at p k → Held p low high n (Some k) w
+module _ (p : Plan) (low high : ℕ) where
+  -- the place n contains it too
+  best_more : (n : ℕ) → Contains p low high n → {k : ℕ} → BestTo p low high n k → BestTo p low high (suc n) (lesser (width_at p) k n)
+  best_more n h {k} b = go (nat_cmp (width_at p k) (width_at p n)) (ranked (width_at p k) (width_at p n) _ refl)
+    where
+      go : (o : Ordering)
+          → MatchOrdering o (width_at p k < width_at p n) (width_at p k ≡ width_at p n) (width_at p n < width_at p k)
+          → BestTo p low high (suc n) (min_by_ordering o k n)
+      go Less m = best_still p low high n b (λ g. omega arith)
+      go Equal m = best_still p low high n b (λ g. omega arith)
+      go Greater m = best_here p low high n h (λ i l g. omega (arith, b.none_narrower i l g))
 
-module _ {p : Plan} {low high : ℕ} where
-  pub held_none : {w : ℕ} → Held p low high 0 None w
-  held_none = nothing (λ i l. absurd (omega arith))
+  -- what is picked of the n places from a on, after those before a
+  module _ (m : ℕ) (inside : m ≤ p.buckets) where
+    best_rest : (n a : ℕ) → a + n ≡ m → (k : ℕ) → BestTo p low high a k
+        → BestTo p low high m (fold (lesser (width_at p)) k (filter (contains p low high) (range_with_len a n)))
+    best_rest zero a e k b = let z : a ≡ m = omega arith in rw (← z) b
+    best_rest (suc n) a e k b =
+        go (contains p low high a) refl (λ j c. best_rest n (a + 1) (omega arith) j (rw add-one c))
+      where
+        go : (t : Bool) → contains p low high a ≡ t
+            → ((j : ℕ) → BestTo p low high (suc a) j
+            → BestTo p low high m (fold (lesser (width_at p)) j (filter (contains p low high) (range_with_len (a + 1) n))))
+            → BestTo p low high m
+            (fold (lesser (width_at p)) k
+            (cond t (a ∷ filter (contains p low high) (range_with_len (a + 1) n)) (filter (contains p low high) (range_with_len (a + 1) n))))
+        go true t rest = rest (lesser (width_at p) k a) (best_more a (contains_says p low high a (omega arith) t) b)
+        go false t rest = rest k (best_still p low high a b (λ h. absurd (contains_not p low high a t h)))
 
-  pub held_all : {o : Option ℕ} {w : ℕ} → Held p low high p.buckets o w → o ≡ named p.buckets (chosen_bucket p low high)
-  held_all (nothing none) = named_nowhere p low high (λ j h. none j h.inside h)
-  held_all (best b e) = named_found p low high (best_chosen p low high b)
+    -- .. where none of them contains it
+    abbrev Picked : Option ℕ → Type 0
+    Picked None = NoneTo p low high m
+    Picked (Some k) = BestTo p low high m k
 
-  -- it looks at the place n: the bucket there does not contain the interval ..
-  module _ (n : ℕ) where
-    pub held_more : {o : Option ℕ} {w : ℕ} → Held p low high n o w → contains p low high n ≡ false → Held p low high (suc n) o w
-    held_more (nothing none) e = nothing (none_more p low high n none (contains_not p low high n e))
-    held_more (best b is) e = best (best_still p low high n b (λ h. absurd (contains_not p low high n e h))) is
+    picked : (n a : ℕ) → a + n ≡ m → NoneTo p low high a → Picked (reduce (lesser (width_at p)) (filter (contains p low high) (range_with_len a n)))
+    picked zero a e none = let z : a ≡ m = omega arith in rw (← z) none
+    picked (suc n) a e none =
+        go (contains p low high a) refl (λ c. picked n (a + 1) (omega arith) (rw add-one c))
+      where
+        go : (t : Bool) → contains p low high a ≡ t
+            → (NoneTo p low high (suc a) → Picked (reduce (lesser (width_at p)) (filter (contains p low high) (range_with_len (a + 1) n))))
+            → Picked
+            (reduce (lesser (width_at p))
+            (cond t (a ∷ filter (contains p low high) (range_with_len (a + 1) n)) (filter (contains p low high) (range_with_len (a + 1) n))))
+        go true t rest =
+            best_rest n (a + 1) (omega arith) a
+            (rw add-one (best_here p low high a (contains_says p low high a (omega arith) t) (λ i l g. absurd (none i l g))))
+        go false t rest = rest (none_more p low high a none (contains_not p low high a t))
 
-    -- .. or does, and is the first that does; is narrower than the one held; or is passed over
-    pub held_first : {o : Option ℕ} {w : ℕ} → Held p low high n o w → Contains p low high n → is_some o ≡ false
-        → Held p low high (suc n) (Some n) (width_at p n)
-    held_first (nothing none) h e = best (best_here p low high n h (λ i m g. absurd (none i m g))) refl
-    held_first (best b is) h e = clash e
-
-    pub held_now : {o : Option ℕ} {w : ℕ} → Held p low high n o w → Contains p low high n → width_at p n < w
-        → Held p low high (suc n) (Some n) (width_at p n)
-    held_now (nothing none) h narrow = best (best_here p low high n h (λ i m g. absurd (none i m g))) refl
-    held_now (best b is) h narrow = best (best_here p low high n h (λ i m g. omega (arith, b.none_narrower i m g))) refl
-
-    pub held_still : {o : Option ℕ} {w : ℕ} → Held p low high n o w → is_some o ≡ true → w ≤ width_at p n → Held p low high (suc n) o w
-    held_still (nothing none) e wide = clash (sym e)
-    held_still (best b is) e wide = best (best_still p low high n b (λ h. omega arith)) is
+  pub picked_is : reduce (lesser (width_at p)) (filter (contains p low high) (range_with_len 0 p.buckets)) ≡ named p.buckets (chosen_bucket p low high)
+  picked_is = go _ (picked p.buckets (omega arith) p.buckets 0 (omega arith) (λ i l. absurd (omega arith)))
+    where
+      go : (o : Option ℕ) → Picked p.buckets (omega arith) o → o ≡ named p.buckets (chosen_bucket p low high)
+      go None none = named_nowhere p low high (λ j h. none j h.inside h)
+      go (Some k) b = named_found p low high (best_chosen p low high b)

@@ -1,8 +1,8 @@
 // Of the buckets that contain an interval, the first of the narrowest (rules 7.1, 7.2).
 
-ghost use Rattle.std.specs.Prelude.{◌≡◌, ◌&&◌, ◌-◌, ◌≤◌};
+ghost use Rattle.std.specs.Prelude.{◌≡◌, ◌&&◌, ◌-◌, ◌≤◌, ◌<◌};
 ghost use Rattle.walk.specs.Numbers.{le?};
-ghost use Rattle.plan.specs.Plan.{bucket_limit};
+ghost use Rattle.plan.specs.Plan.{bucket_limit, left_at, right_at};
 ghost use Rattle.bucket_choice.specs.Choice.{chosen_bucket, named};
 
 use plan::Plan;
@@ -14,7 +14,7 @@ pub struct Interval {
     pub high: u32,
 }
 
-// A bucket from left to right, in millionths.
+// A bucket of a plan, from left to right, in millionths.
 #[derive(Clone, Copy)]
 struct Bucket {
     left: u32,
@@ -28,35 +28,32 @@ impl Bucket {
         self.left <= interval.low && interval.high <= self.right
     }
 
+    // 0 where the right end is below the left one, as in no accepted plan.
     fn width(self) -> u32
-        requires { self.left ≤ self.right }
         ensures { result ≡ self.right - self.left }
     {
-        self.right - self.left
+        self.right.saturating_sub(self.left)
     }
 }
 
-// Its place in the plan, or None where no bucket contains the interval. low is at most high: so a bucket that contains the interval has its left
-// end at most at its right one.
+// The bucket at place j, of at most sixteen.
+fn bucket_at(p: &Plan, j: u32) -> Bucket
+    requires { j < bucket_limit }
+    ensures { result ≡ record { left = left_at p.now j; right = right_at p.now j } }
+{
+    let at = j as usize;
+    Bucket {
+        left: p.left[at],
+        right: p.right[at],
+    }
+}
+
+// The place in the plan of the bucket that is named, or None where no bucket contains the interval.
 pub fn chosen_bucket(p: &Plan, interval: Interval) -> Option<u32>
-    requires { (p.now.buckets ≤ bucket_limit) × (interval.low ≤ interval.high) }
+    requires { p.now.buckets ≤ bucket_limit }
     ensures { result ≡ named p.now.buckets (chosen_bucket p.now interval.low interval.high) }
 {
-    let mut chosen = None;
-    let mut least = 0;
-    for j in 0..p.buckets {
-        let at = j as usize;
-        let bucket = Bucket {
-            left: p.left[at],
-            right: p.right[at],
-        };
-        if bucket.contains(interval) {
-            let width = bucket.width();
-            if chosen.is_none() || width < least {
-                chosen = Some(j);
-                least = width;
-            }
-        }
-    }
-    chosen
+    (0..p.buckets)
+        .filter(|&j| bucket_at(p, j).contains(interval))
+        .min_by_key(|&j| bucket_at(p, j).width())
 }
