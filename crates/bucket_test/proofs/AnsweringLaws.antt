@@ -1,13 +1,17 @@
 -- What a turn of each loop of src/answering.rt leaves to do, and the answer rule, which only Trials, where it computes, unfolds besides.
-use mathlib.Core.Path.{◌≡◌, refl, sym}
-use mathlib.Core.Bool.{Bool, true, false}
-use Prim.Native.Nat.{ℕ, suc, ◌+◌, ◌≤◌, ◌<◌, max, min}
+use mathlib.Core.Path.{◌≡◌, refl, sym, ap, ◌∙◌}
+use mathlib.Core.Bool.{Bool, true, false, ◌||◌}
+use Prim.Native.Nat.{ℕ, zero, suc, ◌+◌, ◌≤◌, ◌<◌, max, min}
 use native.Mathlib.Numerals.{add-one}
 use native.Mathlib.Omega.{arith}
+use mathlib.Core.List.{List}
+use lib.ListN.{length, take, get_or}
+use Rattle.std.specs.List.{list_any}
+use Rattle.std.proofs.lemmas.List.Folds.{list_any_more}
 use Rattle.std.specs.Prelude.{Some, None}
 use Rattle.walk.specs.Numbers.{lt?}
 use Rattle.walk.proofs.Tests.{clash, le?_complete, le?_fails}
-use Rattle.plan.specs.Places.{eq?, largest_to, smallest_to}
+use Rattle.plan.specs.Places.{eq?, any_to, largest_to, smallest_to}
 use Rattle.plan.specs.Plan.{left_at, right_at}
 use Rattle.bucket_choice.specs.Choice.{Choice, chosen_bucket, named}
 use Rattle.bucket_choice.proofs.ChoiceLaws.{chosen_cong, named_some, named_none}
@@ -27,6 +31,15 @@ largest_more i f least x e = rw (add-one i, e)
 pub smallest_more : (i : ℕ) (f : ℕ → ℕ) (most x : ℕ) → x ≡ smallest_to i f most → min x (f i) ≡ smallest_to (i + 1) f most
 unfolding smallest_to
 smallest_more i f most x e = rw (add-one i, e)
+
+-- whether one of the first n of a list passes, by its places
+pub any_of_first : {A : Type 0} (test : A → Bool) (d : A) (n : ℕ) (xs : List A) → n ≤ length xs → list_any test (take n xs) ≡ any_to n (λ i. test (get_or xs i d))
+unfolding any_to
+any_of_first test d zero xs l = refl
+any_of_first test d (suc n) xs l =
+    ap (λ k. list_any test (take k xs)) (sym (add-one n))
+    ∙ list_any_more test xs n d l
+    ∙ ap (λ b. b || test (get_or xs n d)) (any_of_first test d n xs (omega arith))
 
 -- ---- the answer rule, with any choice of buckets
 

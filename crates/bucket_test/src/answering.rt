@@ -22,26 +22,14 @@ pub fn narrowed(v: Interval, m: Mark, t: u32) -> Interval
 {
     match m {
         Mark::Open => v,
-        Mark::Above(_) => {
-            if t > v.low {
-                Interval {
-                    low: t,
-                    high: v.high,
-                }
-            } else {
-                v
-            }
-        }
-        Mark::AtMost(_) => {
-            if t < v.high {
-                Interval {
-                    low: v.low,
-                    high: t,
-                }
-            } else {
-                v
-            }
-        }
+        Mark::Above(_) => Interval {
+            low: v.low.max(t),
+            high: v.high,
+        },
+        Mark::AtMost(_) => Interval {
+            low: v.low,
+            high: v.high.min(t),
+        },
     }
 }
 
@@ -55,8 +43,8 @@ pub(crate) fn interval_of(p: &Plan, s: &State) -> Interval
         low: 0,
         high: MILLION,
     };
-    for i in 0..count {
-        v = narrowed(v, s.records[i].mark, p.thresholds[i]);
+    for (record, &threshold) in s.records[..count].iter().zip(&p.thresholds[..count]) {
+        v = narrowed(v, record.mark, threshold);
     }
     v
 }
@@ -64,24 +52,16 @@ pub(crate) fn interval_of(p: &Plan, s: &State) -> Interval
 pub fn wide_open(t: Threshold) -> bool
     ensures { result ≡ wide_open t }
 {
-    match t.mark {
-        Mark::Open => is_wide(t.walked),
-        Mark::Above(_) => false,
-        Mark::AtMost(_) => false,
-    }
+    matches!(t.mark, Mark::Open) && is_wide(t.walked)
 }
 
 fn any_wide(p: &Plan, s: &State) -> bool
     requires { p.now.count ≤ count_limit }
     ensures { result ≡ any_wide p.now s.now }
 {
-    let count = p.count as usize;
-    for i in 0..count {
-        if wide_open(s.records[i]) {
-            return true;
-        }
-    }
-    false
+    s.records[..p.count as usize]
+        .iter()
+        .any(|&record| wide_open(record))
 }
 
 // The first answer that fits an interval under a plan with at most sixteen buckets.

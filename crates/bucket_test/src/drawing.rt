@@ -61,14 +61,10 @@ pub fn begin(p: &Plan, words: &mut [u64]) -> Drawn
 pub fn is_ending(a: Answer) -> bool
     ensures { result ≡ is_ending a }
 {
-    match a {
-        Answer::Open => false,
-        Answer::Decided(_) => true,
-        Answer::Crossed => true,
-        Answer::Wide => true,
-        Answer::Spent => true,
-        Answer::Refused(_) => false,
-    }
+    matches!(
+        a,
+        Answer::Decided(_) | Answer::Crossed | Answer::Wide | Answer::Spent
+    )
 }
 
 // By plan, 8, 9, 10 and 11 in this order (rules 8.2). Any plan, state, words and draw may be handed in.
@@ -87,7 +83,7 @@ fn take_one(p: &Plan, s: &State, words: &mut [u64], d: u8) -> State
     ensures { (result ≡ next_state p.now s.now words.old d) × (words.new ≡ next_words p.now s.now words.old d) }
 {
     let n = s.n + 1;
-    let ones = s.ones + d as u32;
+    let ones = s.ones + u32::from(d);
     let records = turn_all(p, s.records, words, n, ones);
     State { n, ones, records }
 }

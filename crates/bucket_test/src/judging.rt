@@ -9,7 +9,6 @@ ghost use Rattle.bucket_test.specs.Draw.{state_sound};
 
 use crate::{State, Threshold};
 use plan::Plan;
-use plan::rules::within;
 use walk::soundness::{boundaries_sound, rounded_fits, words_sound};
 use walk::spending::spending_at;
 use walk::{Mark, WIDE};
@@ -18,31 +17,22 @@ use walk::{Mark, WIDE};
 pub fn numbers_sound(t: Threshold, e: u64, n: u32, ones: u32) -> bool
     ensures { result ≡ numbers_sound e n ones t.mark t }
 {
-    let w = t.walked;
-    if !rounded_fits(w, n) {
-        return false;
-    }
-    let mark = t.mark;
-    match mark {
-        Mark::Open => boundaries_sound(w, n, ones, e),
-        Mark::Above(u) => within(u, 1, n),
-        Mark::AtMost(u) => within(u, 1, n),
-    }
+    rounded_fits(t.walked, n)
+        && match t.mark {
+            Mark::Open => boundaries_sound(t.walked, n, ones, e),
+            Mark::Above(u) | Mark::AtMost(u) => 1 <= u && u <= n,
+        }
 }
 
 // .. and with any words.
 fn record_sound(t: Threshold, part: &[u64], e: u64, n: u32, ones: u32) -> bool
     ensures { result ≡ record_sound e n ones t.mark t part.now }
 {
-    if !numbers_sound(t, e, n, ones) {
-        return false;
-    }
-    let mark = t.mark;
-    match mark {
-        Mark::Open => words_sound(part, t.walked),
-        Mark::Above(_) => true,
-        Mark::AtMost(_) => true,
-    }
+    numbers_sound(t, e, n, ones)
+        && match t.mark {
+            Mark::Open => words_sound(part, t.walked),
+            Mark::Above(_) | Mark::AtMost(_) => true,
+        }
 }
 
 // Whether each of the first K records passes refusal 11; n is judged before.
@@ -68,11 +58,5 @@ pub fn state_sound(p: &Plan, s: &State, words: &[u64]) -> bool
     requires { (plan_refusal p.now ≡ 0) × (length words.now ≡ wide * p.now.count) }
     ensures { result ≡ state_sound p.now s.now words.now }
 {
-    if s.n > p.horizon {
-        return false;
-    }
-    if s.ones > s.n {
-        return false;
-    }
-    records_sound(p, s, words)
+    s.n <= p.horizon && s.ones <= s.n && records_sound(p, s, words)
 }

@@ -17,16 +17,14 @@ use walk::{Mark, WIDE, Walked};
 pub fn ten_of(walked: Walked) -> State
     ensures { result ≡ ten_of (open_record walked) }
 {
-    let mark = Mark::Open;
     let t = Threshold {
-        mark: mark,
-        walked: walked,
+        mark: Mark::Open,
+        walked,
     };
-    let records = [t; COUNT_LIMIT];
     State {
         n: 0,
         ones: 0,
-        records: records,
+        records: [t; COUNT_LIMIT],
     }
 }
 
@@ -43,7 +41,7 @@ pub fn no_walked() -> Walked
     }
 }
 
-// Step 0 in each of so many parts.
+// Step 0 in each of so many parts. By index: what a `for` over `chunks_exact_mut` wrote is not known after it.
 pub(crate) fn start_words(words: &mut [u64], count: usize)
     requires { (count ≤ count_limit) × (length words.old ≡ wide * count) }
     ensures { words.new ≡ join_to count (λ i. start_part) }

@@ -21,7 +21,7 @@ fn mark_of(w: Walked, n: u32, ones: u32) -> Mark
     if ones >= w.upper {
         return Mark::Above(n);
     }
-    if ones as i64 <= w.lower as i64 {
+    if i64::from(ones) <= i64::from(w.lower) {
         return Mark::AtMost(n);
     }
     Mark::Open
@@ -31,9 +31,8 @@ fn mark_of(w: Walked, n: u32, ones: u32) -> Mark
 fn walked_on(w: Walked, n: u32, ones: u32) -> Threshold
     ensures { result ≡ record { mark = marked n ones w; walked = w } }
 {
-    let mark = mark_of(w, n, ones);
     Threshold {
-        mark: mark,
+        mark: mark_of(w, n, ones),
         walked: w,
     }
 }
@@ -45,15 +44,9 @@ fn turn(t: Threshold, part: &mut [u64], a: u32, e: u64, n: u32, ones: u32) -> Th
     ensures { (result ≡ turn_record a e n ones t.mark t part.old)
         × (part.new ≡ turn_part a e n ones t.mark t part.old) }
 {
-    let mark = t.mark;
-    match mark {
-        Mark::Open => {
-            let before = t.walked;
-            let walked = step(part, before, a, e);
-            walked_on(walked, n, ones)
-        }
-        Mark::Above(_) => t,
-        Mark::AtMost(_) => t,
+    match t.mark {
+        Mark::Open => walked_on(step(part, t.walked, a, e), n, ones),
+        Mark::Above(_) | Mark::AtMost(_) => t,
     }
 }
 
@@ -63,15 +56,9 @@ pub fn turn_front(t: Threshold, part: &mut [u64], a: u32, e: u64, n: u32, ones: 
     ensures { (result ≡ turn_record a e n ones t.mark t part.old)
         × (row_of result.walked part.new ≡ row_of result.walked (turn_part a e n ones t.mark t part.old)) }
 {
-    let mark = t.mark;
-    match mark {
-        Mark::Open => {
-            let before = t.walked;
-            let next = advance(part, before, a, e);
-            walked_on(next, n, ones)
-        }
-        Mark::Above(_) => t,
-        Mark::AtMost(_) => t,
+    match t.mark {
+        Mark::Open => walked_on(advance(part, t.walked, a, e), n, ones),
+        Mark::Above(_) | Mark::AtMost(_) => t,
     }
 }
 

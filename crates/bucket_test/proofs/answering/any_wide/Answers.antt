@@ -1,24 +1,21 @@
--- Of the first i open thresholds none is wide.
-use mathlib.Core.Path.{sym, ◌∙◌}
-use mathlib.Core.Bool.{true}
+-- Some record among the first K is open and wide.
+use native.Mathlib.Omega.{arith}
+use borrow.Author.Rules.{rules}
+use borrow.Author.Tests.{tests}
+use mathlib.Core.Path.{◌≡◌, ◌∙◌}
+use lib.ListN.{length, take}
+use Rattle.std.proofs.lemmas.Iterator.{YieldsList-from_slice}
+use Rattle.std.proofs.lemmas.Iterator.Search.{any_from_yields_List}
+use Rattle.bucket_test.specs.Turn.{no_record, wide_open}
 use Rattle.bucket_test.specs.Answers.{any_wide}
-use Rattle.plan.proofs.PlaceLaws.{sought_none, sought_next, sought_here, sought_nowhere}
+use Rattle.bucket_test.proofs.AnsweringLaws.{any_of_first}
 use Rattle.bucket_test.proofs.answering.any_wide.Goals as goal
-
-pub loop-i-init : goal.loop-i-init
-loop-i-init c = sought_none true _
-
-pub returns-then-wide_open : goal.returns-then-wide_open
-unfolding any_wide
-returns-then-wide_open c =
-    sought_here true _ c.loop-i.invariant c.loop-i-test.true
-    (sym c.wide_open.ensures ∙ c.if-wide_open.true)
-
-pub loop-i-preserved : goal.loop-i-preserved
-loop-i-preserved c =
-    sought_next true _ c.loop-i.invariant c.loop-i-test.true
-    (sym c.wide_open.ensures ∙ c.if-wide_open.false)
 
 pub returns : goal.returns
 unfolding any_wide
-returns c = sought_nowhere true _ c.loop-i.invariant c.loop-i-test.false
+returns c =
+    let n = c.args.p.now.count in
+    let rs = c.args.s.now.records in
+    let long : length rs ≡ 10 = search rules in
+    any_from_yields_List wide_open _ _ _ c.any.ensures.ran (YieldsList-from_slice (take n rs) cc) (λ x b q k. search (rules, tests))
+    ∙ any_of_first wide_open no_record n rs (omega (arith, c.requires))

@@ -1,8 +1,8 @@
--- After i places the interval is that of the first i thresholds.
+-- After some places the interval is that of their thresholds.
 use mathlib.Core.Path.{◌≡◌}
 use mathlib.Core.List.{List}
 use Prim.Native.Nat.{ℕ, ◌≤◌}
-use lib.ListN.{get_or}
+use lib.ListN.{length, get_or}
 use Rattle.walk.specs.Numbers.{only, choose}
 use Rattle.walk.specs.Units.{million}
 use Rattle.walk.specs.Strings.{Upper, Lower, is_on}
@@ -17,8 +17,8 @@ above_at thresholds records k = only (is_on Upper (get_or records k no_record).m
 abbrev pub at_most_at : List ℕ → List Threshold → ℕ → ℕ
 at_most_at thresholds records k = choose (is_on Lower (get_or records k no_record).mark) (get_or thresholds k 0) million
 
-abbrev pub invariant-loop-i : goal.invariant-loop-i
-invariant-loop-i l =
-    (l.v.low ≡ largest_to l.i (above_at l.p.thresholds l.s.records) 0)
-    × (l.v.high ≡ smallest_to l.i (at_most_at l.p.thresholds l.s.records) million)
+abbrev pub invariant-loop-record : goal.invariant-loop-record
+invariant-loop-record l =
+    (l.v.low ≡ largest_to (length l.yielded) (above_at l.p.thresholds l.s.records) 0)
+    × (l.v.high ≡ smallest_to (length l.yielded) (at_most_at l.p.thresholds l.s.records) million)
     × (l.v.high ≤ million)

@@ -35,4 +35,4 @@ pub returns : goal.returns
 returns c =
     let e = c.turn_all-records.ensures in
     let n = add-one c.args.s.now.n in
-    (next_state_lem _ _ _ _ _ n _ e.0, next_words_lem _ _ _ _ _ n _ e.1)
+    rw (← c.from.ensures) (next_state_lem _ _ _ _ _ n _ e.0, next_words_lem _ _ _ _ _ n _ e.1)

@@ -7,40 +7,24 @@ use lib.Signed.{le_z}
 use mir.Syntax.{w32, w64}
 use mir.Val.{SFits, to_z, of_z}
 use Rattle.walk.proofs.Tests.{le?_complete, le?_fails}
-use Rattle.walk.proofs.Signed.{lower_fits, lower_same, count_same}
-use Rattle.bucket_test.specs.Turn.{marked}
+use Rattle.walk.proofs.Signed.{lower_same, count_same}
 use borrow.Author.Rules.{rules}
-use Rattle.bucket_test.proofs.turning.mark_of.Goals.{After-struct_told-1}
+use Rattle.bucket_test.specs.Turn.{marked}
 use Rattle.bucket_test.proofs.turning.mark_of.Goals as goal
 
-signed : (c : After-struct_told-1) → SFits w32 c.args.w.lower
-signed c = search rules
-
 -- the test of the code, as the definition has it
-under : (s : ℕ) → s < 2 ^ 32 → (z : ℤ) → SFits w32 z → {b : Bool} → le_z (to_z w64 s) (to_z w64 (of_z w64 (to_z w32 (of_z w32 z)))) ≡ b → le_z (pos s) z ≡ b
-under s small z fits h = rw (count_same s small, lower_same z fits) at h
+under : (s : ℕ) → s < 2 ^ 32 → (z : ℤ) → SFits w32 z → {x y : ℤ} → x ≡ pos s → y ≡ to_z w32 (of_z w32 z) → {b : Bool}
+    → le_z (to_z w64 (of_z w64 x)) (to_z w64 (of_z w64 y)) ≡ b → le_z (pos s) z ≡ b
+under s small z fits e f h = rw (e, f, count_same s small, lower_same z fits) at h
 
 pub returns-then-ones-w : goal.returns-then-ones-w
 unfolding marked
 returns-then-ones-w c = rw (le?_complete c.args.w.upper c.args.ones c.if-ones-w.true)
 
-pub overflow_cast-w : goal.overflow_cast-w
-overflow_cast-w c = lower_fits c.args.w.lower (signed (goal.at.overflow_cast-w c).After-struct_told-1)
-
-pub returns-then-ones-w-2 : goal.returns-then-ones-w-2
+pub returns-then-from : goal.returns-then-from
 unfolding marked
-returns-then-ones-w-2 c =
-    let a = c.args in
-    rw (
-      le?_fails a.w.upper a.ones c.if-ones-w.false,
-      under a.ones c.ranges.ones.fits a.w.lower (signed (goal.at.returns-then-ones-w-2 c).After-struct_told-1) c.if-ones-w-2.true,
-    )
+returns-then-from c = rw (le?_fails c.args.w.upper c.args.ones c.if-ones-w.false, under c.args.ones c.ranges.ones.fits c.args.w.lower (search rules) c.from.ensures c.from-2.ensures c.if-from.true)
 
 pub returns : goal.returns
 unfolding marked
-returns c =
-    let a = c.args in
-    rw (
-      le?_fails a.w.upper a.ones c.if-ones-w.false,
-      under a.ones c.ranges.ones.fits a.w.lower (signed (goal.at.returns c).After-struct_told-1) c.if-ones-w-2.false,
-    )
+returns c = rw (le?_fails c.args.w.upper c.args.ones c.if-ones-w.false, under c.args.ones c.ranges.ones.fits c.args.w.lower (search rules) c.from.ensures c.from-2.ensures c.if-from.false)
