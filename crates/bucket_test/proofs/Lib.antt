@@ -16,4 +16,5 @@ mod Trials
 -- What the code leaves to do.
 pub mod AnsweringLaws
 pub mod TurningLaws
+mod Parts
 pub mod DrawingLaws

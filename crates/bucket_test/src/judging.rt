@@ -42,11 +42,9 @@ fn records_sound(p: &Plan, s: &State, words: &[u64]) -> bool
 {
     let count = p.count as usize;
     let portion = p.portion_at(s.n);
-    for i in 0..count {
-        let t = s.records[i];
-        let e = spending_at(p.allowances[i], portion);
-        let at = WIDE * i;
-        if !record_sound(t, &words[at..at + WIDE], e, s.n, s.ones) {
+    let allowed = s.records[..count].iter().zip(&p.allowances[..count]);
+    for ((&record, &allowance), part) in allowed.zip(words.chunks_exact(WIDE)) {
+        if !record_sound(record, part, spending_at(allowance, portion), s.n, s.ones) {
             return false;
         }
     }

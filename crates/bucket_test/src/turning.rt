@@ -63,7 +63,7 @@ pub fn turn_front(t: Threshold, part: &mut [u64], a: u32, e: u64, n: u32, ones: 
 }
 
 // The turns of the first K thresholds at draw n, each with its own part of the words; the records past K stay. A draw has
-// judged the plan, the words and the state.
+// judged the plan, the words and the state. By index: what a `for` over `chunks_exact_mut` wrote is not known after it.
 pub(crate) fn turn_all(
     p: &Plan,
     records: [Threshold; COUNT_LIMIT],
@@ -82,11 +82,16 @@ pub(crate) fn turn_all(
     let portion = p.portion_at(n);
     let mut next = records;
     for i in 0..count {
-        let t = next[i];
-        let a = p.thresholds[i];
         let e = spending_at(p.allowances[i], portion);
         let at = WIDE * i;
-        next[i] = turn(t, &mut words[at..at + WIDE], a, e, n, ones);
+        next[i] = turn(
+            next[i],
+            &mut words[at..at + WIDE],
+            p.thresholds[i],
+            e,
+            n,
+            ones,
+        );
     }
     next
 }

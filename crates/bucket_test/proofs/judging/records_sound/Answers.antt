@@ -1,48 +1,79 @@
--- The records before place i pass.
+-- The records looked at so far pass.
 use mathlib.Core.Path.{◌≡◌, ◌∙◌}
 use mathlib.Core.Bool.{false}
-use Rattle.walk.specs.Units.{wide}
-use Rattle.plan.specs.Tables.{portion_of}
+use native.Mathlib.Omega.{arith}
+use borrow.Author.Rules.{rules}
+use Prim.Native.Nat.{◌≤◌, ◌<◌}
+use lib.ListN.{length, get_or}
+use Rattle.std.proofs.lemmas.Iterator.Consumers.{YieldsList-turn, YieldsList-end}
+use Rattle.std.proofs.lemmas.List.{length_push}
 use Rattle.plan.proofs.PlaceLaws.{passed, failed, sought_none, sought_next, sought_here, sought_nowhere}
 use Rattle.plan.proofs.AcceptedLaws.{accepted}
 use Rattle.plan.proofs.SpendingLaws.{spent_is, may_spend}
-use Rattle.bucket_test.proofs.TurningLaws.{part_lent}
+use Rattle.bucket_test.specs.Turn.{no_record}
+use Rattle.bucket_test.specs.Words.{part_at}
+use Rattle.bucket_test.proofs.Parts.{YieldsList-side_by_side, length-side_by_side, at_place}
 use Rattle.bucket_test.proofs.judging.records_sound.Invariants.{passes}
-use Rattle.bucket_test.proofs.judging.records_sound.Goals.{After-portion_at-portion, After-record_sound}
+use Rattle.bucket_test.proofs.judging.records_sound.Goals.{In-Some, After-record_sound}
 use Rattle.bucket_test.proofs.judging.records_sound.Goals as goal
 
 pub portion_at-portion-requires : goal.portion_at-portion-requires
 portion_at-portion-requires c = ((accepted c.args.p.now).0 c.requires.0).points_sound.few
 
-pub loop-i-init : goal.loop-i-init
-unfolding wide
-loop-i-init c =
-    (((accepted c.args.p.now).0 c.requires.0).count_range.1, c.requires.1, sought_none false _)
+pub shared_ref_as_front-iter : goal.shared_ref_as_front-iter
+shared_ref_as_front-iter c = ((accepted c.args.p.now).0 c.requires.0).count_range.1
 
--- the portion that the loop spends by
-portion : (c : After-portion_at-portion)
-    → let a = c.args in c.portion_at-portion.result ≡ portion_of a.p.now a.s.now.n
-portion c = c.portion_at-portion.ensures
+pub loop-record-init : goal.loop-record-init
+loop-record-init c = sought_none false _
 
-pub spending_at-e-requires : goal.spending_at-e-requires
-spending_at-e-requires c =
-    may_spend c.args.p.now ((accepted c.args.p.now).0 c.requires.0) c.loop-i.i c.args.s.now.n c.loop-i-test.true c.requires.2 _ (portion (goal.at.spending_at-e-requires c).After-portion_at-portion)
+-- the threshold that this turn looks at
+turn : (c : In-Some) → let a = c.args in
+    let i = length c.loop-record.yielded in
+    (i < a.p.now.count)
+    × ((c.in-Some.field-0-0-0.now ≡ get_or a.s.now.records i no_record)
+    × (c.in-Some.field-0-0-1.now ≡ get_or a.p.now.allowances i 0)
+    × (c.in-Some.part.now ≡ part_at i a.words.now))
+turn c =
+    let p = c.args.p.now in
+    let n = p.count in
+    let rs = c.args.s.now.records in
+    let few = ((accepted p).0 c.requires.0).count_range.1 in
+    let a : n ≤ length rs = search (rules, few) in
+    let b : n ≤ length p.allowances = search (rules, few) in
+    let t = YieldsList-turn (YieldsList-side_by_side rs p.allowances c.args.words.now n a b (cc) (cc) (cc) (cc) c.requires.1) c.loop-record.yielded c.loop-record.record-iterator c.loop-record.yielded_by c.next.result c.next.new.self _ c.in-Some.is c.next.ensures.steps in
+    let l : length c.loop-record.yielded < n = omega (arith, t.0, length-side_by_side rs p.allowances c.args.words.now n a b) in
+    (l, at_place rs p.allowances c.args.words.now n a b _ _ l t.1)
+
+pub spending_at-requires : goal.spending_at-requires
+spending_at-requires c =
+    let p = c.args.p.now in
+    let t = turn (goal.at.spending_at-requires c).In-Some in
+    rw t.1.1 (may_spend p ((accepted p).0 c.requires.0) (length c.loop-record.yielded) c.args.s.now.n t.0 c.requires.2 _ c.portion_at-portion.ensures)
 
 judged : (c : After-record_sound)
     → let a = c.args in
-    c.record_sound.result ≡ passes a.p.now a.s.now a.words.now c.loop-i.i
+    c.record_sound.result ≡ passes a.p.now a.s.now a.words.now (length c.loop-record.yielded)
 judged c =
-    let spent = spent_is c.args.p.now c.loop-i.i c.args.s.now.n _ _ (c.portion_at-portion.ensures) c.spending_at-e.ensures in
-    c.record_sound.ensures ∙ rw (spent, part_lent c.loop-i.i c.args.words.now)
+    let t = turn (goal.at.After-record_sound c).In-Some in
+    let spent = spent_is c.args.p.now (length c.loop-record.yielded) c.args.s.now.n _ _ c.portion_at-portion.ensures (rw t.1.1 at c.spending_at.ensures) in
+    c.record_sound.ensures ∙ rw (spent, t.1.0, t.1.2)
 
 pub returns-then-not-record_sound : goal.returns-then-not-record_sound
 returns-then-not-record_sound c =
-    sought_here false _ c.loop-i.invariant.2 c.loop-i-test.true (failed (judged (goal.at.returns-then-not-record_sound c).After-record_sound) c.if-not-record_sound.true-raw)
+    sought_here false _ c.loop-record.invariant (turn (goal.at.returns-then-not-record_sound c).In-Some).0 (failed (judged (goal.at.returns-then-not-record_sound c).After-record_sound) c.if-not-record_sound.true-raw)
 
-pub loop-i-preserved : goal.loop-i-preserved
-loop-i-preserved c =
-    let l = c.loop-i in
-    (l.invariant.0, l.invariant.1, sought_next false _ l.invariant.2 c.loop-i-test.true (passed (judged (goal.at.loop-i-preserved c).After-record_sound) c.if-not-record_sound.false-raw))
+pub loop-record-preserved : goal.loop-record-preserved
+loop-record-preserved c =
+    rw (length_push c.loop-record.yielded ((c.in-Some.field-0-0-0, c.in-Some.field-0-0-1), c.in-Some.part))
+    (sought_next false _ c.loop-record.invariant (turn (goal.at.loop-record-preserved c).In-Some).0 (passed (judged (goal.at.loop-record-preserved c).After-record_sound) c.if-not-record_sound.false-raw))
 
 pub returns : goal.returns
-returns c = sought_nowhere false _ c.loop-i.invariant.2 c.loop-i-test.false
+returns c =
+    let p = c.args.p.now in
+    let n = p.count in
+    let rs = c.args.s.now.records in
+    let few = ((accepted p).0 c.requires.0).count_range.1 in
+    let a : n ≤ length rs = search (rules, few) in
+    let b : n ≤ length p.allowances = search (rules, few) in
+    let t = YieldsList-end (YieldsList-side_by_side rs p.allowances c.args.words.now n a b (cc) (cc) (cc) (cc) c.requires.1) c.loop-record.yielded c.loop-record.record-iterator c.loop-record.yielded_by c.next.result c.next.new.self c.in-None.is c.next.ensures.steps in
+    sought_nowhere false _ c.loop-record.invariant (omega (arith, t.1, length-side_by_side rs p.allowances c.args.words.now n a b))
