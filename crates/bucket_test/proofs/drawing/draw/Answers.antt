@@ -6,9 +6,6 @@ use Rattle.bucket_test.proofs.drawing.draw.Goals as goal
 pub returns-in-Err : goal.returns-in-Err
 returns-in-Err c = hands (refuses_draw _ _ _ _ _ c.in-Err.ensures) c.refused.ensures refl
 
-pub take_one-state-requires : goal.take_one-state-requires
-take_one-state-requires c = sym c.in_default.ensures
-
 pub answer_of-requires : goal.answer_of-requires
 answer_of-requires c = places _ (drawable _ _ _ _ (sym c.in_default.ensures)).good
 

@@ -7,7 +7,7 @@ use Prim.Native.Nat.{◌≤◌, ◌<◌}
 use lib.ListN.{length, get_or}
 use Rattle.std.proofs.lemmas.Iterator.Consumers.{YieldsList-turn, YieldsList-end}
 use Rattle.std.proofs.lemmas.List.{length_push}
-use Rattle.plan.proofs.PlaceLaws.{passed, failed, sought_none, sought_next, sought_here, sought_nowhere}
+use Rattle.plan.proofs.PlaceLaws.{passed, failed, sought_next, sought_here, sought_nowhere}
 use Rattle.plan.proofs.AcceptedLaws.{accepted}
 use Rattle.plan.proofs.SpendingLaws.{spent_is, may_spend}
 use Rattle.bucket_test.specs.Turn.{no_record}
@@ -22,9 +22,6 @@ portion_at-portion-requires c = ((accepted c.args.p.now).0 c.requires.0).points_
 
 pub shared_ref_as_front-iter : goal.shared_ref_as_front-iter
 shared_ref_as_front-iter c = ((accepted c.args.p.now).0 c.requires.0).count_range.1
-
-pub loop-record-init : goal.loop-record-init
-loop-record-init c = sought_none false _
 
 -- the threshold that this turn looks at
 turn : (c : In-Some) → let a = c.args in

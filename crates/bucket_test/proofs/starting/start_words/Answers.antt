@@ -2,7 +2,7 @@
 use mathlib.Core.Path.{refl, ◌∙◌}
 use native.Mathlib.Omega.{arith}
 use Rattle.walk.specs.Units.{wide}
-use Rattle.bucket_test.proofs.TurningLaws.{part_length, part_lent, words_none, words_all, part_put}
+use Rattle.bucket_test.proofs.TurningLaws.{part_length, part_lent, words_none, part_put}
 use borrow.Author.Rules.{rules}
 use Rattle.bucket_test.proofs.starting.start_words.Invariants.{start_at}
 use Rattle.bucket_test.proofs.starting.start_words.Goals as goal
@@ -26,9 +26,3 @@ loop-i-preserved c =
       search rules,
       part_put start_at _ l.i (omega arith) l.words l.invariant.2 l.invariant.3 _ c.start_part.ensures,
     )
-
-pub returns : goal.returns
-returns c =
-    let a = c.args in
-    let l = c.loop-i in
-    l.invariant.3 ∙ words_all start_at a.words.now a.count l.i c.requires.1 (omega arith)

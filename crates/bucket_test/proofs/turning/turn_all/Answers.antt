@@ -1,6 +1,6 @@
 -- After i turns the first i records and parts have had theirs; the others are as they were.
 use mathlib.Core.Path.{◌≡◌, refl, ap, ◌∙◌}
-use Prim.Native.Nat.{ℕ, ◌+◌, ◌*◌, ◌-◌}
+use Prim.Native.Nat.{◌+◌, ◌*◌, ◌-◌}
 use native.Mathlib.Omega.{arith}
 use lib.ListN.{length, take, drop, get_or}
 use Rattle.walk.specs.Units.{wide}
@@ -11,7 +11,7 @@ use Rattle.bucket_test.specs.Words.{part_at}
 use Rattle.bucket_test.specs.Turn.{no_record, record_turn}
 use Rattle.plan.proofs.AcceptedLaws.{accepted}
 use Rattle.plan.proofs.SpendingLaws.{spent_is, may_spend}
-use Rattle.bucket_test.proofs.TurningLaws.{record_now, record_put, part_length, words_none, words_all, part_now_lem, part_put, may_turn, same_record, same_part}
+use Rattle.bucket_test.proofs.TurningLaws.{record_now, record_put, part_length, words_none, part_now_lem, part_put, may_turn, same_record, same_part}
 use borrow.Author.Rules.{rules}
 use Rattle.bucket_test.proofs.turning.turn_all.Invariants.{part_of}
 use Rattle.bucket_test.proofs.turning.turn_all.Goals.{After-portion_at-portion, After-spending_at-e}
@@ -82,13 +82,4 @@ loop-i-preserved c =
           (same_record _ a.n a.ones e k.0 k.1 done.0),
       part_put (part_of a.p.now a.records a.words.now a.n a.ones) a.words.now l.i (omega arith) l.words l.invariant.3 l.invariant.5 _
           (same_part _ a.n a.ones e k.0 k.1 done.1),
-    )
-
-pub returns : goal.returns
-returns c =
-    let a = c.args in
-    let l = c.loop-i in
-    let ended : l.i ≡ a.p.now.count = omega arith in (
-      l.invariant.4 ∙ ap (λ (k : ℕ). over_to k (record_turn a.p.now a.words.now a.n a.ones) a.records) ended,
-      l.invariant.5 ∙ words_all (part_of a.p.now a.records a.words.now a.n a.ones) _ a.p.now.count l.i c.requires.1 ended,
     )
