@@ -114,7 +114,7 @@ module _ (p : Plan) (low high : ℕ) where
         go true t rest = rest (lesser (width_at p) k a) (best_more a (contains_says p low high a (omega arith) t) b)
         go false t rest = rest k (best_still p low high a b (λ h. absurd (contains_not p low high a t h)))
 
-    -- .. where none of them contains it
+    -- .. where none before a does
     abbrev Picked : Option ℕ → Type 0
     Picked None = NoneTo p low high m
     Picked (Some k) = BestTo p low high m k

@@ -1,4 +1,4 @@
--- What a turn of each loop of src/answering.rt leaves to do, and the answer rule, which only Trials, where it computes, unfolds besides.
+-- What the functions of src/answering.rt leave to show, and the answer rule, which only Trials, where it computes, unfolds besides.
 use mathlib.Core.Path.{◌≡◌, refl, sym, ap, ◌∙◌}
 use mathlib.Core.Bool.{Bool, true, false, ◌||◌}
 use Prim.Native.Nat.{ℕ, zero, suc, ◌+◌, ◌≤◌, ◌<◌, max, min}
