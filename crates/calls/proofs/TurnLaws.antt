@@ -172,46 +172,46 @@ module _ {p : Plan} {n ones : ℕ} {bytes : List ℕ} (j : Turns p n ones bytes)
     e = spending_of p i n
 
     -- the record t, with its masses, which stand at an offset, read into the front of a part that has room for one more
-    module _ (t : Threshold) (is : t ≡ held) (live : ℕ) (live_is : live ≡ live_count t) (at : ℕ) (here : at ≡ mass_offset bytes count i) (part : List ℕ)
-        (room : live_count held < length part) where
-      abbrev front : List ℕ
-      front = filled (live_count held) (column mass_size at mass_size bytes) part
+    module _ (t : Threshold) (is : t ≡ held) (at : ℕ) (here : at ≡ mass_offset bytes count i) where
+      live_held : live_count t ≡ live_count held
+      live_held = ap (λ (u : Threshold). live_count u) is
 
-      live_held : live ≡ live_count held
-      live_held = live_is ∙ ap (λ (u : Threshold). live_count u) is
+      -- they are inside; and where the next stand
+      pub old_next : (at + mass_size * live_count t ≤ length bytes) × (at + mass_size * live_count t ≡ mass_offset bytes count (i + 1))
+      old_next = (
+        held_inside bytes count j.form i l (live_count t) at live_held here,
+        held_next bytes count j.form i l (live_count t) at live_held here,
+      )
 
-      same : take (live_count held) front ≡ take (live_count held) (part_in bytes count i)
-      same = held_front bytes count j.form i l (live_count held) at refl here front part refl (omega arith)
+      module _ (part : List ℕ) (room : live_count t < length part) where
+        abbrev front : List ℕ
+        front = filled (live_count held) (column mass_size at mass_size bytes) part
 
-      front_room : live_count held < length front
-      unfolding filled
-      front_room = omega (arith, over-length (live_count held) (λ k _. column mass_size at mass_size bytes k) part)
+        pub may_read : (live_count t ≤ length part) × (at + mass_size * live_count t ≤ length bytes)
+        may_read = (omega arith, old_next.0)
 
-      -- what the reading and the turn ask, and what the turn gives
-      pub may_read : (live ≤ length part) × (at + mass_size * live ≤ length bytes)
-      may_read = (omega (arith, live_held, room), held_inside bytes count j.form i l live at live_held here)
+        same : take (live_count held) front ≡ take (live_count held) (part_in bytes count i)
+        same = held_front bytes count j.form i l (live_count held) at refl here front part refl (omega (arith, live_held))
 
-      module _ (q₀ : List ℕ) (read : q₀ ≡ filled live (column mass_size at mass_size bytes) part) where
-        read_is : q₀ ≡ front
-        read_is = read ∙ rw live_held
+        front_room : live_count held < length front
+        unfolding filled
+        front_room = omega (arith, live_held, room, over-length (live_count held) (λ k _. column mass_size at mass_size bytes k) part)
 
-        pub may_turn : MayTurn a e t.mark t q₀
-        may_turn = rw (is, read_is) (may_by a e held (part_in bytes count i) front held.mark same front_room (j.may i l))
+        -- what the turn asks, and what it gives
+        module _ (q₀ : List ℕ) (read : q₀ ≡ filled (live_count t) (column mass_size at mass_size bytes) part) where
+          read_is : q₀ ≡ front
+          read_is = read ∙ ap (λ (k : ℕ). filled k (column mass_size at mass_size bytes) part) live_held
 
-        pub turned : (r : Threshold) (q : List ℕ) → r ≡ turn_record a e n ones t.mark t q₀
-            → row_of r.walked q ≡ row_of r.walked (turn_part a e n ones t.mark t q₀)
-            → (r ≡ next i) × (take (live_count r) q ≡ take (live_count r) (parts i))
-        turned r q made row =
-            let r-is : r ≡ next i = (rw (is, read_is) at made) ∙ turn_by held (part_in bytes count i) front a e n ones held.mark same in
-            let k = front_by a e n ones held (part_in bytes count i) front q held.mark refl same (rw (is, read_is, r-is) at row) in
-            (r-is, rw r-is k)
+          pub may_turn : MayTurn a e t.mark t q₀
+          may_turn = rw (is, read_is) (may_by a e held (part_in bytes count i) front held.mark same front_room (j.may i l))
 
-    -- the next offset of the old masses
-    pub old_next : (t : Threshold) → t ≡ held → (live at : ℕ) → live ≡ live_count t → at ≡ mass_offset bytes count i
-        → (at + mass_size * live ≤ length bytes) × (at + mass_size * live ≡ mass_offset bytes count (i + 1))
-    old_next t is live at e here =
-        let live_is : live ≡ live_count held = e ∙ ap (λ (u : Threshold). live_count u) is in
-        (held_inside bytes count j.form i l live at live_is here, held_next bytes count j.form i l live at live_is here)
+          pub turned : (r : Threshold) (q : List ℕ) → r ≡ turn_record a e n ones t.mark t q₀
+              → row_of r.walked q ≡ row_of r.walked (turn_part a e n ones t.mark t q₀)
+              → (r ≡ next i) × (take (live_count r) q ≡ take (live_count r) (parts i))
+          turned r q made row =
+              let r-is : r ≡ next i = (rw (is, read_is) at made) ∙ turn_by held (part_in bytes count i) front a e n ones held.mark same in
+              let k = front_by a e n ones held (part_in bytes count i) front q held.mark refl same (rw (is, read_is, r-is) at row) in
+              (r-is, rw r-is k)
 
   pub old_small : length bytes ≤ form_limit
   unfolding form_size record_offset wide

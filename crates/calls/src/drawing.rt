@@ -51,8 +51,8 @@ fn take_with(
 {
     let n = read_u32(saved, DRAWS_FIELD) + 1;
     let ones = read_u32(saved, ONES_FIELD) + draw;
-    ensure(has_room(p, saved, n, ones, part, lent), Refusal::Room)?;
-    let turned = turn_through(p, saved, n, ones, part, true, lent);
+    ensure(has_room(p, saved, n, ones, part, lent.len()), Refusal::Room)?;
+    let turned = turn_through(p, saved, n, ones, part, lent);
     write_header(lent, p.count as usize, turned.masses, n, ones);
     Ok(turned.standing)
 }

@@ -1,18 +1,17 @@
--- The turns of the thresholds before place i are taken; where it writes, their masses stand behind the place of the records, and their records
--- behind the header's.
+-- The turns of the thresholds before place i are taken: their masses stand behind the place of the records, and their records behind the header's.
 use mathlib.Core.Path.{◌≡◌, refl, sym, ◌∙◌}
 use Prim.Native.Nat.{◌+◌, ◌*◌, ◌≤◌, ◌<◌}
 use native.Mathlib.Omega.{arith}
-use lib.ListN.{length, take}
+use lib.ListN.{length}
 use Rattle.walk.specs.Units.{million, wide}
 use Rattle.plan.specs.Plan.{count_limit}
 use Rattle.plan.specs.Places.{join_to}
 use Rattle.little.proofs.Putting.{put_none}
 use Rattle.saved_test.specs.Form.{record_size, mass_size, header_size, record_offset, form_size, live_count, masses_to}
-use Rattle.saved_test.specs.Reading.{record_in, mass_offset}
+use Rattle.saved_test.specs.Reading.{mass_offset}
 use Rattle.saved_test.proofs.ReadingLaws.{offset_first}
-use Rattle.calls.proofs.TurnLaws.{seen_none, seen_next, few, next, parts, offset, may_read, may_turn, turned, old_next, old_small, new_few, new_room, new_live, new_masses_lem, new_inside, entries_next, entries_last}
-use Rattle.calls.proofs.turns.turn_through.Goals.{In-loop-i, After-front_in, After-live_count-live}
+use Rattle.calls.proofs.TurnLaws.{seen_none, seen_next, few, offset, old_next, old_small, new_few, new_room, new_live, new_masses_lem, new_inside, entries_next, entries_last}
+use Rattle.calls.proofs.turns.turn_through.Goals.{In-loop-i, After-record_from-t, After-live_count-live}
 use Rattle.calls.proofs.turns.turn_through.Goals as goal
 
 pub overflow_mul-front : goal.overflow_mul-front
@@ -29,57 +28,39 @@ loop-i-init c =
       inside = omega arith;
       part_size = refl;
       lent_size = refl;
-      at_is = offset_first a.bytes.now a.p.now.count;
+      at_is = offset_first a.saved.now a.p.now.count;
       masses_are = refl;
       seen = seen_none a.p.now _ _ c.unseen-standing.ensures;
       high = rw c.unseen-standing.ensures (omega arith);
-      lent_is = λ _. rw (put_none (record_offset a.p.now.count) a.lent.now) (sym (put_none header_size a.lent.now));
-      kept = λ _. refl;
+      lent_is = rw (put_none (record_offset a.p.now.count) a.lent.now) (sym (put_none header_size a.lent.now));
     }
 
 pub record_from-t-requires : goal.record_from-t-requires
 unfolding form_size record_offset
 record_from-t-requires c = omega (arith, c.requires.0.form.sized, c.loop-i-test.true)
 
--- ---- the threshold at place i
-
-module _ (c : In-loop-i) where
-  place : c.loop-i.i < count_limit
-  place = omega (arith, few c.requires.0, c.loop-i-test.true)
-
-  room : live_count (record_in c.args.bytes.now c.loop-i.i) < length c.loop-i.part
-  room = omega (arith, c.requires.1 c.loop-i.i c.loop-i-test.true, c.loop-i.invariant.part_size)
-
-pub front_in-requires : goal.front_in-requires
-unfolding record_offset
-front_in-requires c =
-    let l = c.loop-i in
-    may_read c.requires.0 l.i c.loop-i-test.true _ c.record_from-t.ensures _ c.live_count-had.ensures.0 l.at l.invariant.at_is l.part (room (goal.at.front_in-requires c).In-loop-i)
-
 pub turn_at-next-requires : goal.turn_at-next-requires
 unfolding record_offset
 turn_at-next-requires c =
     let l = c.loop-i in
-    let j = c.requires.0 in
-    (j.judged, c.loop-i-test.true, j.in_time, may_turn j l.i c.loop-i-test.true _ c.record_from-t.ensures _ c.live_count-had.ensures.0 l.at l.invariant.at_is l.part (room (goal.at.turn_at-next-requires c).In-loop-i) _ c.front_in.ensures)
+    let is = c.record_from-t.ensures in
+    (c.requires.0, c.loop-i-test.true, is, l.invariant.at_is, rw is (omega (arith, c.requires.1 l.i c.loop-i-test.true, l.invariant.part_size)))
 
--- .. after its turn
+-- ---- the threshold at place i
+
+place : (c : In-loop-i) → c.loop-i.i < count_limit
+place c = omega (arith, few c.requires.0, c.loop-i-test.true)
+
+-- after its turn
 module _ (c : After-live_count-live) where
-  result : (c.turn_at-next.result ≡ next c.requires.0 c.loop-i.i)
-      × (take (live_count c.turn_at-next.result) c.turn_at-next.new.part ≡ take (live_count c.turn_at-next.result) (parts c.requires.0 c.loop-i.i))
-  unfolding record_offset
-  result =
-      let l = c.loop-i in
-      let e = c.turn_at-next.ensures in
-      let held : live_count (record_in c.args.bytes.now l.i) < length l.part = omega (arith, c.requires.1 l.i c.loop-i-test.true, l.invariant.part_size) in
-      turned c.requires.0 l.i c.loop-i-test.true _ c.record_from-t.ensures _ c.live_count-had.ensures.0 l.at l.invariant.at_is l.part held _ c.front_in.ensures _ _ e.0 e.1
-
   small : (c.live_count-live.result ≤ wide) × (c.loop-i.masses ≤ wide * c.loop-i.i) × (c.live_count-live.result ≤ length c.turn_at-next.new.part)
   small =
-      let l = c.loop-i in (
-        new_live c.requires.0 l.i c.loop-i-test.true _ result.0 _ c.live_count-live.ensures.0,
+      let l = c.loop-i in
+      let r = c.turn_at-next.ensures.0 in
+      let live = c.live_count-live.ensures.0 in (
+        new_live c.requires.0 l.i c.loop-i-test.true _ r _ live,
         omega (arith, l.invariant.masses_are, new_few c.requires.0 l.i l.invariant.inside),
-        omega (arith, new_room c.requires.0 l.i c.loop-i-test.true _ result.0 _ c.live_count-live.ensures.0, c.requires.1 l.i c.loop-i-test.true, l.invariant.part_size, c.front_in.auto.part, c.turn_at-next.auto.part),
+        omega (arith, new_room c.requires.0 l.i c.loop-i-test.true _ r _ live, c.requires.1 l.i c.loop-i-test.true, l.invariant.part_size, c.turn_at-next.auto.part),
       )
 
   to_is : header_size + record_size * c.args.p.now.count + mass_size * c.loop-i.masses ≡ offset c.requires.0 c.loop-i.i
@@ -94,18 +75,17 @@ pub overflow_add-to : goal.overflow_add-to
 unfolding wide
 overflow_add-to c = omega (arith, (small (goal.at.overflow_add-to c).After-live_count-live).1, place (goal.at.overflow_add-to c).In-loop-i, few c.requires.0)
 
-pub put_turned-requires : goal.put_turned-requires
-unfolding form_size record_offset
-put_turned-requires c =
-    let here = (goal.at.put_turned-requires c).After-live_count-live in
-    let size = c.loop-i.invariant.lent_size in (
-      place (goal.at.put_turned-requires c).In-loop-i,
-      λ on. (
-        (small here).2,
-        omega (arith, new_inside c.requires.0 c.loop-i.i c.loop-i-test.true _ (result here).0 _ c.live_count-live.ensures.0 _ (to_is here), c.requires.2 on, size),
-        omega (arith, c.requires.2 on, size, c.loop-i-test.true),
-      ),
+pub write_part-requires : goal.write_part-requires
+write_part-requires c =
+    let here = (goal.at.write_part-requires c).After-live_count-live in
+    let l = c.loop-i in (
+      (small here).2,
+      omega (arith, new_inside c.requires.0 l.i c.loop-i-test.true _ c.turn_at-next.ensures.0 _ c.live_count-live.ensures.0 _ (to_is here), c.requires.2, l.invariant.lent_size),
     )
+
+pub write_record-requires : goal.write_record-requires
+unfolding form_size record_offset
+write_record-requires c = omega (arith, c.requires.2, c.loop-i.invariant.lent_size, c.write_part.auto.bytes, c.loop-i-test.true)
 
 pub bounds-p-i : goal.bounds-p-i
 bounds-p-i c = place (goal.at.bounds-p-i c).In-loop-i
@@ -118,39 +98,36 @@ unfolding wide
 overflow_add-masses c = let b = small (goal.at.overflow_add-masses c).After-live_count-live in omega (arith, b.0, b.1, place (goal.at.overflow_add-masses c).In-loop-i)
 
 -- where the next old masses stand
-old : (c : After-front_in) → let a = c.args in
-    (c.loop-i.at + mass_size * c.live_count-had.result ≤ length a.bytes.now)
-    × (c.loop-i.at + mass_size * c.live_count-had.result ≡ mass_offset a.bytes.now a.p.now.count (c.loop-i.i + 1))
+old : (c : After-record_from-t) → let t = c.record_from-t.result in
+    (c.loop-i.at + mass_size * live_count t ≤ length c.args.saved.now)
+    × (c.loop-i.at + mass_size * live_count t ≡ mass_offset c.args.saved.now c.args.p.now.count (c.loop-i.i + 1))
 unfolding record_offset
-old c =
-    let l = c.loop-i in
-    old_next c.requires.0 l.i c.loop-i-test.true _ c.record_from-t.ensures _ l.at c.live_count-had.ensures.0 l.invariant.at_is
+old c = old_next c.requires.0 c.loop-i.i c.loop-i-test.true _ c.record_from-t.ensures c.loop-i.at c.loop-i.invariant.at_is
 
 pub overflow_mul-at : goal.overflow_mul-at
-overflow_mul-at c = omega (arith, (old (goal.at.overflow_mul-at c).After-front_in).0)
+overflow_mul-at c = omega (arith, (old (goal.at.overflow_mul-at c).After-record_from-t).0, old_small c.requires.0, c.live_count.ensures.0)
 
 pub overflow_add-at : goal.overflow_add-at
-overflow_add-at c = omega (arith, (old (goal.at.overflow_add-at c).After-front_in).0, old_small c.requires.0)
+overflow_add-at c = omega (arith, (old (goal.at.overflow_add-at c).After-record_from-t).0, old_small c.requires.0, c.live_count.ensures.0)
 
 pub loop-i-preserved : goal.loop-i-preserved
 loop-i-preserved c =
     let here = (goal.at.loop-i-preserved c).After-live_count-live in
     let j = c.requires.0 in
     let l = c.loop-i in
-    let r = result here in
-    let put = c.put_turned.ensures in
+    let r = c.turn_at-next.ensures in
     let e = c.seen-standing.ensures in
     record {
       inside = omega (arith, c.loop-i-test.true);
-      part_size = omega (arith, l.invariant.part_size, c.front_in.auto.part, c.turn_at-next.auto.part);
-      lent_size = omega (arith, l.invariant.lent_size, c.put_turned.auto.lent);
-      at_is = (old (goal.at.loop-i-preserved c).After-front_in).1;
+      part_size = omega (arith, l.invariant.part_size, c.turn_at-next.auto.part);
+      lent_size = omega (arith, l.invariant.lent_size, c.write_part.auto.bytes, c.write_record.auto.bytes);
+      at_is = rw c.live_count.ensures.0 (old (goal.at.loop-i-preserved c).After-record_from-t).1;
       masses_are = rw l.invariant.masses_are (new_masses_lem j l.i c.loop-i-test.true _ r.0 _ c.live_count-live.ensures.0);
       seen = seen_next _ _ l.i l.standing _ _ r.0 l.invariant.seen e.0 e.1 e.2;
       high = omega (arith, e.1, l.invariant.high);
-      lent_is = λ on.
-          entries_next j l.i c.loop-i-test.true _ r.0 _ c.live_count-live.ensures.0 _ (to_is here) _ r.1 c.args.lent.now l.lent _ (l.invariant.lent_is on) (put.0 on) (c.requires.2 on);
-      kept = λ off. put.1 off ∙ l.invariant.kept off;
+      lent_is =
+          entries_next j l.i c.loop-i-test.true _ r.0 _ c.live_count-live.ensures.0 _ (to_is here) _ r.1 c.args.lent.now l.lent _ l.invariant.lent_is
+          (c.write_record.ensures ∙ rw c.write_part.ensures) c.requires.2;
     }
 
 pub returns : goal.returns
@@ -158,4 +135,4 @@ unfolding form_size
 returns c =
     let l = c.loop-i in
     let e : l.i ≡ c.args.p.now.count = omega (arith, l.invariant.inside, c.loop-i-test.false) in
-    (rw e at l.invariant.masses_are, rw e at l.invariant.seen, λ on. entries_last c.requires.0 c.args.lent.now l.lent (rw e at (l.invariant.lent_is on)) (omega (arith, c.requires.2 on)), l.invariant.kept)
+    (rw e at l.invariant.masses_are, rw e at l.invariant.seen, entries_last c.requires.0 c.args.lent.now l.lent (rw e at l.invariant.lent_is) (omega (arith, c.requires.2)))
