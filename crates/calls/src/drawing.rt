@@ -10,7 +10,7 @@ ghost use Rattle.calls.specs.Inner.{Hands, refusal_on, PartHoldsOneMore, Ready, 
 
 use crate::Standing;
 use crate::stands::has_ended;
-use crate::turns::{has_room, turn_through};
+use crate::turns::Turning;
 use bucket_test::Answer;
 use bucket_test::answering::first_that_fits;
 use little::numbers::read_u32;
@@ -51,8 +51,14 @@ fn take_with(
 {
     let n = read_u32(saved, DRAWS_FIELD) + 1;
     let ones = read_u32(saved, ONES_FIELD) + draw;
-    ensure(has_room(p, saved, n, ones, part, lent.len()), Refusal::Room)?;
-    let turned = turn_through(p, saved, n, ones, part, lent);
+    let turning = Turning {
+        plan: p,
+        saved,
+        n,
+        ones,
+    };
+    ensure(turning.has_room(part, lent.len()), Refusal::Room)?;
+    let turned = turning.turn_through(part, lent);
     write_header(lent, p.count as usize, turned.masses, n, ones);
     Ok(turned.standing)
 }

@@ -11,8 +11,8 @@ use Rattle.saved_test.specs.Form.{record_size, mass_size, header_size, record_of
 use Rattle.saved_test.specs.Reading.{mass_offset}
 use Rattle.saved_test.proofs.ReadingLaws.{offset_first}
 use Rattle.calls.proofs.TurnLaws.{seen_none, seen_next, few, offset, old_next, old_small, new_few, new_room, new_live, new_masses_lem, new_inside, entries_next, entries_last}
-use Rattle.calls.proofs.turns.turn_through.Goals.{In-loop-i, After-record_from-t, After-live_count-live}
-use Rattle.calls.proofs.turns.turn_through.Goals as goal
+use Rattle.calls.proofs.turns.Turning.turn_through.Goals.{In-loop-i, After-record_from-t, After-live_count-live}
+use Rattle.calls.proofs.turns.Turning.turn_through.Goals as goal
 
 pub overflow_mul-front : goal.overflow_mul-front
 overflow_mul-front c = omega (arith, few c.requires.0)
@@ -28,11 +28,11 @@ loop-i-init c =
       inside = omega arith;
       part_size = refl;
       lent_size = refl;
-      at_is = offset_first a.saved.now a.p.now.count;
+      at_is = offset_first a.self.now.saved.now a.self.now.plan.now.count;
       masses_are = refl;
-      seen = seen_none a.p.now _ _ c.unseen-standing.ensures;
+      seen = seen_none a.self.now.plan.now _ _ c.unseen-standing.ensures;
       high = rw c.unseen-standing.ensures (omega arith);
-      lent_is = rw (put_none (record_offset a.p.now.count) a.lent.now) (sym (put_none header_size a.lent.now));
+      lent_is = rw (put_none (record_offset a.self.now.plan.now.count) a.lent.now) (sym (put_none header_size a.lent.now));
     }
 
 pub record_from-t-requires : goal.record_from-t-requires
@@ -63,7 +63,7 @@ module _ (c : After-live_count-live) where
         omega (arith, new_room c.requires.0 l.i c.loop-i-test.true _ r _ live, c.requires.1 l.i c.loop-i-test.true, l.invariant.part_size, c.turn_at-next.auto.part),
       )
 
-  to_is : header_size + record_size * c.args.p.now.count + mass_size * c.loop-i.masses ≡ offset c.requires.0 c.loop-i.i
+  to_is : header_size + record_size * c.args.self.now.plan.now.count + mass_size * c.loop-i.masses ≡ offset c.requires.0 c.loop-i.i
   unfolding record_offset
   to_is = omega (arith, c.loop-i.invariant.masses_are)
 
@@ -87,8 +87,8 @@ pub write_record-requires : goal.write_record-requires
 unfolding form_size record_offset
 write_record-requires c = omega (arith, c.requires.2, c.loop-i.invariant.lent_size, c.write_part.auto.bytes, c.loop-i-test.true)
 
-pub bounds-p-i : goal.bounds-p-i
-bounds-p-i c = place (goal.at.bounds-p-i c).In-loop-i
+pub bounds-self-i : goal.bounds-self-i
+bounds-self-i c = place (goal.at.bounds-self-i c).In-loop-i
 
 pub seen-standing-requires : goal.seen-standing-requires
 seen-standing-requires c = c.loop-i.invariant.high
@@ -99,8 +99,8 @@ overflow_add-masses c = let b = small (goal.at.overflow_add-masses c).After-live
 
 -- where the next old masses stand
 old : (c : After-record_from-t) → let t = c.record_from-t.result in
-    (c.loop-i.at + mass_size * live_count t ≤ length c.args.saved.now)
-    × (c.loop-i.at + mass_size * live_count t ≡ mass_offset c.args.saved.now c.args.p.now.count (c.loop-i.i + 1))
+    (c.loop-i.at + mass_size * live_count t ≤ length c.args.self.now.saved.now)
+    × (c.loop-i.at + mass_size * live_count t ≡ mass_offset c.args.self.now.saved.now c.args.self.now.plan.now.count (c.loop-i.i + 1))
 unfolding record_offset
 old c = old_next c.requires.0 c.loop-i.i c.loop-i-test.true _ c.record_from-t.ensures c.loop-i.at c.loop-i.invariant.at_is
 
@@ -134,5 +134,5 @@ pub returns : goal.returns
 unfolding form_size
 returns c =
     let l = c.loop-i in
-    let e : l.i ≡ c.args.p.now.count = omega (arith, l.invariant.inside, c.loop-i-test.false) in
+    let e : l.i ≡ c.args.self.now.plan.now.count = omega (arith, l.invariant.inside, c.loop-i-test.false) in
     (rw e at l.invariant.masses_are, rw e at l.invariant.seen, entries_last c.requires.0 c.args.lent.now l.lent (rw e at l.invariant.lent_is) (omega (arith, c.requires.2)))

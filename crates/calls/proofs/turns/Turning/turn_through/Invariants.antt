@@ -11,7 +11,7 @@ use Rattle.saved_test.specs.Form.{header_size, record_offset, masses_to}
 use Rattle.saved_test.specs.Reading.{mass_offset}
 use Rattle.calls.specs.Inner.{Seen, new_record, new_record_bytes, new_mass_bytes}
 use Rattle.calls.specs.declared.Standing.{Standing}
-use Rattle.calls.proofs.turns.turn_through.Given as goal
+use Rattle.calls.proofs.turns.Turning.turn_through.Given as goal
 
 pub record Done (p : Plan) (n ones : ℕ) (bytes part₀ lent₀ part lent : List ℕ) (at masses : ℕ) (standing : Standing) (i : ℕ) : Type 0 where
   pub inside : i ≤ p.count
@@ -25,7 +25,7 @@ pub record Done (p : Plan) (n ones : ℕ) (bytes part₀ lent₀ part lent : Lis
 
 abbrev pub invariant-loop-i : goal.invariant-loop-i
 invariant-loop-i l =
-    Done l.p l.n l.ones l.saved l.initial.part l.initial.lent l.part l.lent l.at l.masses l.standing l.i
+    Done l.self.plan.now l.self.n l.self.ones l.self.saved.now l.initial.part l.initial.lent l.part l.lent l.at l.masses l.standing l.i
 
 abbrev pub decreases-loop-i : goal.decreases-loop-i
 decreases-loop-i l = l.count - l.i

@@ -8,8 +8,8 @@ use Rattle.saved_test.specs.Form.{record_offset, form_size, mass_size, live_coun
 use Rattle.saved_test.specs.Reading.{mass_offset}
 use Rattle.saved_test.proofs.ReadingLaws.{offset_first}
 use Rattle.calls.proofs.TurnLaws.{few, old_next, old_small, new_few, new_live, new_masses_lem}
-use Rattle.calls.proofs.turns.masses_after.Goals.{In-loop-i, After-record_from-t}
-use Rattle.calls.proofs.turns.masses_after.Goals as goal
+use Rattle.calls.proofs.turns.Turning.masses_after.Goals.{In-loop-i, After-record_from-t}
+use Rattle.calls.proofs.turns.Turning.masses_after.Goals as goal
 
 pub overflow_mul-at : goal.overflow_mul-at
 overflow_mul-at c = omega (arith, few c.requires.0)
@@ -41,8 +41,8 @@ overflow_add-masses c =
 
 -- where the next old masses stand
 old : (c : After-record_from-t) → let t = c.record_from-t.result in
-    (c.loop-i.at + mass_size * live_count t ≤ length c.args.saved.now)
-    × (c.loop-i.at + mass_size * live_count t ≡ mass_offset c.args.saved.now c.args.p.now.count (c.loop-i.i + 1))
+    (c.loop-i.at + mass_size * live_count t ≤ length c.args.self.now.saved.now)
+    × (c.loop-i.at + mass_size * live_count t ≡ mass_offset c.args.self.now.saved.now c.args.self.now.plan.now.count (c.loop-i.i + 1))
 unfolding record_offset
 old c = old_next c.requires.0 c.loop-i.i c.loop-i-test.true _ c.record_from-t.ensures c.loop-i.at c.loop-i.invariant.2
 
@@ -64,5 +64,5 @@ loop-i-preserved c =
 pub returns : goal.returns
 returns c =
     let l = c.loop-i in
-    let e : l.i ≡ c.args.p.now.count = omega (arith, l.invariant.0, c.loop-i-test.false) in
+    let e : l.i ≡ c.args.self.now.plan.now.count = omega (arith, l.invariant.0, c.loop-i-test.false) in
     rw e at l.invariant.3
