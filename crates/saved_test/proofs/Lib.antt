@@ -12,7 +12,8 @@ pub mod BytesBack
 -- The statements of specs/RoundTrip.
 pub mod RoundTrip
 -- What the code leaves to do.
-mod SignLaws
+mod MarkLaws
+mod PlaceRanges
 pub mod ReadingLaws
 pub mod WritingLaws
 mod Trials

@@ -58,16 +58,24 @@ record_made bytes at code step bits upper over under rounded m z c s b small u o
     rw (mark, low, to_z-of_z w32 (to_z w32 bits) fits, c, s, b, u, o, n, r)
 
 -- a field that was read is compared with a number
-module _ {r v x : ℕ} (e : r ≡ v) where
-  pub yes : r ≡ x → eq? v x ≡ true
-  yes h = eq?_complete v x (sym e ∙ h)
-
-  pub no : ¬ (r ≡ x) → eq? v x ≡ false
-  no h = eq?_fails v x (λ q. h (e ∙ q))
-
 pub as_read : {r v : ℕ} → r ≡ v → (x : ℕ) → eqb r x ≡ eq? v x
 unfolding eq?
 as_read e x = ap (λ (y : ℕ). eqb y x) e
+
+-- a chain of tests in code: after tests with the value u, the next decides only where u is true
+pub goes_on : {u v w b : Bool} → u ≡ v → u ≡ true → w ≡ b → w ≡ (v && b)
+goes_on is e h = rw (sym is ∙ e) h
+
+pub stops_here : {u v w : Bool} (b : Bool) → u ≡ v → u ≡ false → w ≡ u → w ≡ (v && b)
+stops_here b is e h = rw (sym is ∙ e) (h ∙ e)
+
+pub regrouped : (a b c d e f g : Bool) → ((((((a && b) && c) && d) && e) && f) && g) ≡ (a && (b && (c && (d && (e && (f && g))))))
+regrouped false b c d e f g = refl
+regrouped true false c d e f g = refl
+regrouped true true false d e f g = refl
+regrouped true true true false e f g = refl
+regrouped true true true true false f g = refl
+regrouped true true true true true f g = refl
 
 -- ---- refusal 15, test by test
 

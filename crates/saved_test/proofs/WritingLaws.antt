@@ -32,7 +32,7 @@ use Rattle.saved_test.specs.Form.{header_size, record_size, mass_size, record_of
 use Rattle.saved_test.specs.Writing.{save_refusal, write_refusal, Saved, saved_as, saved, bytes_after}
 use Rattle.walk.specs.Numbers.{le?}
 use Rattle.plan.proofs.AcceptedLaws.{accepted}
-use Rattle.saved_test.proofs.Judged.{save_says, known_at, masses_few}
+use Rattle.saved_test.proofs.Judged.{save_says, known_at, masses_few, masses_cong}
 use Rattle.saved_test.proofs.Sizes.{masses_length, header-length, front_length, entries_length}
 use Rattle.saved_test.proofs.BytesBack.{masses_within}
 
@@ -91,6 +91,30 @@ module _ (records : ℕ → Threshold) (parts : ℕ → List ℕ) where
   unfolding join_to
   masses_next at i b b' b'' e f h =
       rw (add-one i) (then at (join_to i entry) (entry i) b b' b'' (at + 8 * masses_to records i) e f h (rw (masses_length records parts i)))
+
+-- ---- the records of a plan's thresholds, as a slice
+
+join_cong : (f g : ℕ → List ℕ) (n : ℕ) → ((i : ℕ) → i < n → f i ≡ g i) → join_to n f ≡ join_to n g
+unfolding join_to
+join_cong f g zero h = refl
+join_cong f g (suc n) h = rw (join_cong f g n (λ i l. h i (omega arith)), h n (omega arith))
+
+module _ (p : Plan) (s : State) (records : List Threshold) (long : length records ≡ p.count)
+    (same : (i : ℕ) → i < p.count → get_or records i no_record ≡ record_at s i) where
+  pub masses_counted : masses_to (λ i. get_or records i no_record) (length records) ≡ saved_masses p s
+  masses_counted = rw long (masses_cong _ _ p.count same)
+
+  pub few_counted : ((i : ℕ) → i < p.count → live_count (record_at s i) ≤ wide) → (i : ℕ) → i < length records → live_count (get_or records i no_record) ≤ wide
+  few_counted few i l = let h : i < p.count = omega (arith, long, l) in rw (same i h) (few i h)
+
+  pub records_counted : join_to (length records) (λ i. record_bytes (get_or records i no_record)) ≡ join_to p.count (λ i. record_bytes (record_at s i))
+  records_counted = rw long (join_cong _ _ p.count (λ i l. ap record_bytes (same i l)))
+
+  pub entries_counted : (words : List ℕ)
+      → join_to (length records) (λ i. mass_bytes (live_count (get_or records i no_record)) (part_at i words))
+      ≡ join_to p.count (λ i. mass_bytes (live_count (record_at s i)) (part_at i words))
+  entries_counted words =
+      rw long (join_cong _ _ p.count (λ i l. ap (λ (t : Threshold). mass_bytes (live_count t) (part_at i words)) (same i l)))
 
 -- ---- the masses of a threshold, as code puts them
 

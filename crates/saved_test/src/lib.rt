@@ -4,5 +4,4 @@
 pub mod form;
 pub mod marks;
 pub mod reading;
-mod signed;
 pub mod writing;

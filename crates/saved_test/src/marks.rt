@@ -1,13 +1,11 @@
 // Marks by their codes, and how many masses a threshold has by its mark (saved 1, 3).
-ghost use Rattle.std.specs.Prelude.{◌≡◌, ◌*◌, ◌^◌, ◌≤◌, ◌<◌, get_or};
+ghost use Rattle.std.specs.Prelude.{◌≡◌, ◌*◌, ◌^◌, ◌≤◌, ◌<◌, length, get_or};
 ghost use Rattle.plan.specs.Plan.{count_limit};
 ghost use Rattle.bucket_test.specs.Turn.{no_record};
-ghost use Rattle.saved_test.specs.Form.{live_count, masses_to, mark_code, mark_step};
+ghost use Rattle.saved_test.specs.Form.{counts_between, live_count, masses_to, mark_code, mark_step};
 ghost use Rattle.saved_test.specs.Reading.{mark_of, mark_known, count_fits};
 
-use crate::signed::counts_between;
 use bucket_test::Threshold;
-use plan::COUNT_LIMIT;
 use walk::{Mark, WIDE};
 
 // The codes.
@@ -17,24 +15,14 @@ const ABOVE: u32 = 1;
 
 const AT_MOST: u32 = 2;
 
-pub fn code_of(m: Mark) -> u32
-    ensures { result ≡ mark_code m }
+// The code of a mark, and its step, 0 where it is open.
+pub fn code_of(mark: Mark) -> (u32, u32)
+    ensures { (result.0 ≡ mark_code mark) × (result.1 ≡ mark_step mark) }
 {
-    match m {
-        Mark::Open => OPEN,
-        Mark::Above(_) => ABOVE,
-        Mark::AtMost(_) => AT_MOST,
-    }
-}
-
-// The step of a mark, 0 where it is open.
-pub fn step_of(m: Mark) -> u32
-    ensures { result ≡ mark_step m }
-{
-    match m {
-        Mark::Open => 0,
-        Mark::Above(t) => t,
-        Mark::AtMost(t) => t,
+    match mark {
+        Mark::Open => (OPEN, 0),
+        Mark::Above(step) => (ABOVE, step),
+        Mark::AtMost(step) => (AT_MOST, step),
     }
 }
 
@@ -42,38 +30,38 @@ pub fn step_of(m: Mark) -> u32
 pub(crate) fn mark_of(code: u32, step: u32) -> Mark
     ensures { result ≡ mark_of code step }
 {
-    if code == OPEN {
-        return Mark::Open;
+    match code {
+        OPEN => Mark::Open,
+        ABOVE => Mark::Above(step),
+        _ => Mark::AtMost(step),
     }
-    if code == ABOVE {
-        return Mark::Above(step);
-    }
-    Mark::AtMost(step)
 }
 
 // One of the three codes, and step 0 where it is open.
 pub(crate) fn mark_known(code: u32, step: u32) -> bool
     ensures { result ≡ mark_known code step }
 {
-    if code == OPEN {
-        return step == 0;
+    match code {
+        OPEN => step == 0,
+        ABOVE | AT_MOST => true,
+        _ => false,
     }
-    if code == ABOVE {
-        return true;
-    }
-    code == AT_MOST
+}
+
+// Upper - lower - 1, of any two boundaries; 0 where there is no count between them.
+fn counts_between(lower: i32, upper: u32) -> usize
+    ensures { (result ≡ counts_between lower upper) × (result < 2 ^ 33) }
+{
+    (i64::from(upper) - i64::from(lower) - 1).max(0) as usize
 }
 
 // The masses that are saved of a threshold.
 pub fn live_count(t: Threshold) -> usize
     ensures { (result ≡ live_count t) × (result < 2 ^ 33) }
 {
-    let m = t.mark;
-    let w = t.walked;
-    match m {
-        Mark::Open => counts_between(w.lower, w.upper),
-        Mark::Above(_) => 0,
-        Mark::AtMost(_) => 0,
+    match t.mark {
+        Mark::Open => counts_between(t.walked.lower, t.walked.upper),
+        Mark::Above(_) | Mark::AtMost(_) => 0,
     }
 }
 
@@ -81,30 +69,16 @@ pub fn live_count(t: Threshold) -> usize
 pub(crate) fn count_fits(t: Threshold) -> bool
     ensures { result ≡ count_fits t.mark t.walked }
 {
-    let m = t.mark;
-    let w = t.walked;
-    match m {
-        Mark::Open => {
-            let n = counts_between(w.lower, w.upper);
-            if n < 1 {
-                return false;
-            }
-            n <= WIDE
-        }
-        Mark::Above(_) => true,
-        Mark::AtMost(_) => true,
+    match t.mark {
+        Mark::Open => (1..=WIDE).contains(&counts_between(t.walked.lower, t.walked.upper)),
+        Mark::Above(_) | Mark::AtMost(_) => true,
     }
 }
 
 // The masses of so many thresholds together.
-pub(crate) fn masses_of(records: [Threshold; COUNT_LIMIT], count: usize) -> usize
-    requires { count ≤ count_limit }
-    ensures { (result ≡ masses_to (λ i. get_or records i no_record) count) × (result ≤ 2 ^ 33 * count) }
+pub(crate) fn masses_of(records: &[Threshold]) -> usize
+    requires { length records.now ≤ count_limit }
+    ensures { result ≡ masses_to (λ i. get_or records.now i no_record) (length records.now) }
 {
-    let mut total: usize = 0;
-    for i in 0..count {
-        let t = records[i];
-        total += live_count(t);
-    }
-    total
+    records.iter().map(|t| live_count(*t)).sum()
 }

@@ -20,7 +20,6 @@ use crate::form::{
     RECORD_SIZE_FIELD, ROUNDED_FIELD, SIZE_FIELD, STEP_FIELD, UNDER_FIELD, UPPER_FIELD,
 };
 use crate::marks::{count_fits, live_count, mark_known, mark_of};
-use crate::signed::signed_of;
 use bucket_test::judging::numbers_sound;
 use bucket_test::starting::{no_walked, ten_of};
 use bucket_test::{State, Threshold};
@@ -42,23 +41,27 @@ pub fn record_from(bytes: &[u8], at: usize) -> Threshold
     let code = read_u32(bytes, at);
     let step = read_u32(bytes, at + STEP_FIELD);
     let mark = mark_of(code, step);
-    let bits = read_u32(bytes, at + LOWER_FIELD);
-    let lower = signed_of(bits);
+    let lower = read_u32(bytes, at + LOWER_FIELD).cast_signed();
     let upper = read_u32(bytes, at + UPPER_FIELD);
     let over = read_u64(bytes, at + OVER_FIELD);
     let under = read_u64(bytes, at + UNDER_FIELD);
     let rounded = read_u32(bytes, at + ROUNDED_FIELD);
     let walked = Walked {
-        lower: lower,
-        upper: upper,
-        over: over,
-        under: under,
-        rounded: rounded,
+        lower,
+        upper,
+        over,
+        under,
+        rounded,
     };
-    Threshold {
-        mark: mark,
-        walked: walked,
-    }
+    Threshold { mark, walked }
+}
+
+// The record at place i.
+fn record_in(bytes: &[u8], i: usize) -> Threshold
+    requires { header_size + record_size * i + record_size ≤ length bytes.now }
+    ensures { result ≡ record_in bytes.now i }
+{
+    record_from(bytes, HEADER_SIZE + RECORD_SIZE * i)
 }
 
 // The record at an offset has a known mark, and open boundaries that count as many masses as a part can hold.
@@ -69,11 +72,7 @@ fn record_fits(bytes: &[u8], at: usize) -> bool
 {
     let code = read_u32(bytes, at);
     let step = read_u32(bytes, at + STEP_FIELD);
-    if !mark_known(code, step) {
-        return false;
-    }
-    let t = record_from(bytes, at);
-    count_fits(t)
+    mark_known(code, step) && count_fits(record_from(bytes, at))
 }
 
 // .. each of so many.
@@ -81,25 +80,15 @@ fn records_fit(bytes: &[u8], count: usize) -> bool
     requires { (count ≤ count_limit) × (header_size + record_size * count ≤ length bytes.now) }
     ensures { result ≡ all_to count (record_fits bytes.now) }
 {
-    for i in 0..count {
-        if !record_fits(bytes, HEADER_SIZE + RECORD_SIZE * i) {
-            return false;
-        }
-    }
-    true
+    (0..count).all(|i| record_fits(bytes, HEADER_SIZE + RECORD_SIZE * i))
 }
 
 // The masses that so many records ask.
 fn masses_in(bytes: &[u8], count: usize) -> usize
     requires { (count ≤ count_limit) × (header_size + record_size * count ≤ length bytes.now) }
-    ensures { (result ≡ masses_to (record_in bytes.now) count) × (result ≤ 2 ^ 33 * count) }
+    ensures { (result ≡ masses_to (record_in bytes.now) count) × (result ≤ 2 ^ 33 * count_limit) }
 {
-    let mut total: usize = 0;
-    for i in 0..count {
-        let t = record_from(bytes, HEADER_SIZE + RECORD_SIZE * i);
-        total += live_count(t);
-    }
-    total
+    (0..count).map(|i| live_count(record_in(bytes, i))).sum()
 }
 
 // The header's numbers but n and S.
@@ -114,25 +103,13 @@ fn header_fits(bytes: &[u8], count: usize, masses: usize, offset: usize, size: u
         && (eq? (field 2 record_size_field bytes.now) record_size
         && eq? (field 2 mass_size_field bytes.now) mass_size)))))) }
 {
-    if read_u16(bytes, COUNT_FIELD) as usize != count {
-        return false;
-    }
-    if read_u16(bytes, MASSES_FIELD) as usize != masses {
-        return false;
-    }
-    if read_u16(bytes, RECORD_OFFSET_FIELD) as usize != HEADER_SIZE {
-        return false;
-    }
-    if read_u16(bytes, MASS_OFFSET_FIELD) as usize != offset {
-        return false;
-    }
-    if read_u32(bytes, SIZE_FIELD) as usize != size {
-        return false;
-    }
-    if read_u16(bytes, RECORD_SIZE_FIELD) as usize != RECORD_SIZE {
-        return false;
-    }
-    read_u16(bytes, MASS_SIZE_FIELD) as usize == MASS_SIZE
+    read_u16(bytes, COUNT_FIELD) as usize == count
+        && read_u16(bytes, MASSES_FIELD) as usize == masses
+        && read_u16(bytes, RECORD_OFFSET_FIELD) as usize == HEADER_SIZE
+        && read_u16(bytes, MASS_OFFSET_FIELD) as usize == offset
+        && read_u32(bytes, SIZE_FIELD) as usize == size
+        && read_u16(bytes, RECORD_SIZE_FIELD) as usize == RECORD_SIZE
+        && read_u16(bytes, MASS_SIZE_FIELD) as usize == MASS_SIZE
 }
 
 // So many records, and those of a beginning behind them.
@@ -143,7 +120,7 @@ fn records_in(bytes: &[u8], count: usize) -> [Threshold; COUNT_LIMIT]
     let start = ten_of(start_walked());
     let mut records = start.records;
     for i in 0..count {
-        let t = record_from(bytes, HEADER_SIZE + RECORD_SIZE * i);
+        let t = record_in(bytes, i);
         records[i] = t;
     }
     records
@@ -156,13 +133,8 @@ fn state_in(p: &Plan, bytes: &[u8]) -> State
 {
     let n = read_u32(bytes, DRAWS_FIELD);
     let ones = read_u32(bytes, ONES_FIELD);
-    let count = p.count as usize;
-    let records = records_in(bytes, count);
-    State {
-        n: n,
-        ones: ones,
-        records: records,
-    }
+    let records = records_in(bytes, p.count as usize);
+    State { n, ones, records }
 }
 
 // Refusal 15, under a plan with at most ten thresholds.
@@ -211,7 +183,7 @@ fn parts_in(p: &Plan, bytes: &[u8], words: &mut [u64])
     let count = p.count as usize;
     let mut at = HEADER_SIZE + RECORD_SIZE * count;
     for i in 0..count {
-        let t = record_from(bytes, HEADER_SIZE + RECORD_SIZE * i);
+        let t = record_in(bytes, i);
         let n = live_count(t);
         let start = WIDE * i;
         part_in(bytes, at, n, &mut words[start..start + WIDE]);
@@ -240,14 +212,13 @@ fn record_sound_in(bytes: &[u8], at: usize, t: Threshold, e: u64, n: u32, ones: 
     if !numbers_sound(t, e, n, ones) {
         return false;
     }
-    let mark = t.mark;
-    match mark {
-        Mark::Open => {
-            let w = t.walked;
-            masses_sound(weigh_in(bytes, at, live_count(t)), w.over, w.under)
-        }
-        Mark::Above(_) => true,
-        Mark::AtMost(_) => true,
+    match t.mark {
+        Mark::Open => masses_sound(
+            weigh_in(bytes, at, live_count(t)),
+            t.walked.over,
+            t.walked.under,
+        ),
+        Mark::Above(_) | Mark::AtMost(_) => true,
     }
 }
 
@@ -259,9 +230,9 @@ fn parts_sound(p: &Plan, bytes: &[u8], n: u32, ones: u32) -> bool
     let count = p.count as usize;
     let portion = p.portion_at(n);
     let mut at = HEADER_SIZE + RECORD_SIZE * count;
-    for i in 0..count {
-        let t = record_from(bytes, HEADER_SIZE + RECORD_SIZE * i);
-        let e = spending_at(p.allowances[i], portion);
+    for (i, &allowance) in p.allowances[..count].iter().enumerate() {
+        let t = record_in(bytes, i);
+        let e = spending_at(allowance, portion);
         if !record_sound_in(bytes, at, t, e, n, ones) {
             return false;
         }

@@ -13,12 +13,11 @@ use crate::form::{
     COUNT_FIELD, HEADER_SIZE, LOWER_FIELD, MASS_SIZE, MASS_SIZE_FIELD, ONES_FIELD, OVER_FIELD,
     RECORD_OFFSET_FIELD, RECORD_SIZE, ROUNDED_FIELD, SIZE_FIELD, UNDER_FIELD,
 };
-use crate::marks::{code_of, live_count, masses_of, step_of};
-use crate::signed::bits_of;
+use crate::marks::{code_of, live_count, masses_of};
 use bucket_test::judging::state_sound;
 use bucket_test::{State, Threshold};
 use little::numbers::{write_le, write_two};
-use plan::{COUNT_LIMIT, Plan};
+use plan::Plan;
 use refusals::{Refusal, ensure};
 use walk::WIDE;
 
@@ -27,26 +26,29 @@ pub fn write_record(bytes: &mut [u8], at: usize, t: Threshold)
     requires { at + record_size ≤ length bytes.old }
     ensures { bytes.new ≡ put_at at (record_bytes t) bytes.old }
 {
-    let m = t.mark;
     let w = t.walked;
-    let code = code_of(m);
-    let step = step_of(m);
-    let bits = bits_of(w.lower);
+    let (code, step) = code_of(t.mark);
     write_two(bytes, at, 4, code, 4, step as u64);
-    write_two(bytes, at + LOWER_FIELD, 4, bits, 4, w.upper as u64);
+    write_two(
+        bytes,
+        at + LOWER_FIELD,
+        4,
+        w.lower.cast_unsigned(),
+        4,
+        w.upper as u64,
+    );
     write_le(bytes, at + OVER_FIELD, 8, w.over);
     write_le(bytes, at + UNDER_FIELD, 8, w.under);
     write_le(bytes, at + ROUNDED_FIELD, 4, w.rounded as u64);
 }
 
 // So many records behind the header.
-fn write_records(bytes: &mut [u8], count: usize, records: [Threshold; COUNT_LIMIT])
-    requires { (count ≤ count_limit) × (header_size + record_size * count ≤ length bytes.old) }
-    ensures { bytes.new ≡ put_at header_size (join_to count (λ i. record_bytes (get_or records i no_record))) bytes.old }
+fn write_records(bytes: &mut [u8], records: &[Threshold])
+    requires { (length records.now ≤ count_limit) × (header_size + record_size * length records.now ≤ length bytes.old) }
+    ensures { bytes.new ≡ put_at header_size (join_to (length records.now) (λ i. record_bytes (get_or records.now i no_record))) bytes.old }
 {
-    for i in 0..count {
-        let t = records[i];
-        write_record(bytes, HEADER_SIZE + RECORD_SIZE * i, t);
+    for (i, t) in records.iter().enumerate() {
+        write_record(bytes, HEADER_SIZE + RECORD_SIZE * i, *t);
     }
 }
 
@@ -55,23 +57,23 @@ pub fn write_part(bytes: &mut [u8], at: usize, count: usize, part: &[u64])
     requires { (count ≤ length part.now) × (at + mass_size * count ≤ length bytes.old) }
     ensures { bytes.new ≡ put_at at (mass_bytes count part.now) bytes.old }
 {
-    for j in 0..count {
-        write_le(bytes, at + MASS_SIZE * j, MASS_SIZE, part[j]);
+    for (j, mass) in part[..count].iter().enumerate() {
+        write_le(bytes, at + MASS_SIZE * j, MASS_SIZE, *mass);
     }
 }
 
 // The masses of so many thresholds behind their records.
-fn write_masses(bytes: &mut [u8], count: usize, records: [Threshold; COUNT_LIMIT], words: &[u64])
-    requires { (count ≤ count_limit) × (length words.now ≡ wide * count)
-        × ((i : ℕ) → i < count → live_count (get_or records i no_record) ≤ wide)
-        × (header_size + record_size * count + mass_size * masses_to (λ i. get_or records i no_record) count ≤ length bytes.old) }
+fn write_masses(bytes: &mut [u8], records: &[Threshold], words: &[u64])
+    requires { (length records.now ≤ count_limit) × (length words.now ≡ wide * length records.now)
+        × ((i : ℕ) → i < length records.now → live_count (get_or records.now i no_record) ≤ wide)
+        × (header_size + record_size * length records.now + mass_size * masses_to (λ i. get_or records.now i no_record) (length records.now) ≤ length bytes.old) }
     ensures { bytes.new
-        ≡ put_at (header_size + record_size * count) (join_to count (λ i. mass_bytes (live_count (get_or records i no_record)) (part_at i words.now))) bytes.old }
+        ≡ put_at (header_size + record_size * length records.now)
+        (join_to (length records.now) (λ i. mass_bytes (live_count (get_or records.now i no_record)) (part_at i words.now))) bytes.old }
 {
-    let mut at = HEADER_SIZE + RECORD_SIZE * count;
-    for i in 0..count {
-        let t = records[i];
-        let n = live_count(t);
+    let mut at = HEADER_SIZE + RECORD_SIZE * records.len();
+    for (i, t) in records.iter().enumerate() {
+        let n = live_count(*t);
         let start = WIDE * i;
         write_part(bytes, at, n, &words[start..start + WIDE]);
         at += MASS_SIZE * n;
@@ -105,9 +107,9 @@ pub fn write_front(bytes: &mut [u8], p: &Plan, s: &State)
     ensures { bytes.new ≡ put_at 0 (saved_header p.now s.now ++ record_entries p.now s.now) bytes.old }
 {
     let count = p.count as usize;
-    let masses = masses_of(s.records, count);
-    write_header(bytes, count, masses, s.n, s.ones);
-    write_records(bytes, count, s.records);
+    let (records, _) = s.records.split_at(count);
+    write_header(bytes, count, masses_of(records), s.n, s.ones);
+    write_records(bytes, records);
 }
 
 // The form of any test into any lent bytes, or the refusal: plan, 8, 11, 12. On a refusal no byte changes.
@@ -118,9 +120,10 @@ pub fn write_test(p: &Plan, s: &State, words: &[u64], bytes: &mut [u8]) -> Resul
     let count = p.count as usize;
     ensure(words.len() == WIDE * count, Refusal::Words)?;
     ensure(state_sound(p, s, words), Refusal::Spoiled)?;
-    let size = HEADER_SIZE + RECORD_SIZE * count + MASS_SIZE * masses_of(s.records, count);
+    let (records, _) = s.records.split_at(count);
+    let size = HEADER_SIZE + RECORD_SIZE * count + MASS_SIZE * masses_of(records);
     ensure(size <= bytes.len(), Refusal::Room)?;
-    write_masses(bytes, count, s.records, words);
+    write_masses(bytes, records, words);
     write_front(bytes, p, s);
     Ok(size)
 }

@@ -1,12 +1,13 @@
 -- By the code.
-use Rattle.saved_test.proofs.SignLaws.{known_open, known_above, known_other}
+use native.Mathlib.Omega.{arith}
+use Rattle.saved_test.proofs.MarkLaws.{known_open, known_settled, known_none}
 use Rattle.saved_test.proofs.marks.mark_known.Goals as goal
 
-pub returns-then-code-eq-OPEN : goal.returns-then-code-eq-OPEN
-returns-then-code-eq-OPEN c = known_open c.args.code c.args.step c.if-code-eq-OPEN.true
+pub returns-in-0 : goal.returns-in-0
+returns-in-0 c = rw c.in-0.is (known_open c.args.step)
 
-pub returns-then-code-eq-ABOVE : goal.returns-then-code-eq-ABOVE
-returns-then-code-eq-ABOVE c = known_above c.args.code c.args.step c.if-code-eq-ABOVE.true
+pub returns-in-1 : goal.returns-in-1
+returns-in-1 c = known_settled c.args.code c.args.step (omega arith) (omega arith)
 
-pub returns : goal.returns
-returns c = known_other c.args.code c.args.step c.if-code-eq-OPEN.false c.if-code-eq-ABOVE.false
+pub returns-in_default : goal.returns-in_default
+returns-in_default c = known_none c.args.code c.args.step (omega arith)

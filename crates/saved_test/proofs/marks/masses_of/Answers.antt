@@ -1,22 +1,15 @@
--- The masses of the thresholds before place i are counted.
-use Rattle.saved_test.specs.Form.{masses_to}
-use native.Mathlib.Numerals.{add-one}
-use native.Mathlib.Omega.{arith}
-use mathlib.Core.Path.{◌≡◌, refl}
+-- Record by record.
+use mathlib.Core.Path.{◌∙◌}
+use borrow.Author.Rules.{rules}
+use borrow.Author.Tests.{tests}
+use Rattle.std.proofs.lemmas.Iterator.{YieldsList-from_slice, YieldsList-from_map}
+use Rattle.std.proofs.lemmas.Iterator.Consumers.{YieldsList-at, sum_by_from_yields_List}
+use Rattle.saved_test.specs.Form.{live_count}
+use Rattle.saved_test.proofs.PlaceRanges.{masses_list}
 use Rattle.saved_test.proofs.marks.masses_of.Goals as goal
-
-pub loop-i-init : goal.loop-i-init
-unfolding masses_to
-loop-i-init c = (omega arith, refl, omega arith)
-
-pub loop-i-preserved : goal.loop-i-preserved
-unfolding masses_to
-loop-i-preserved c =
-    let l = c.loop-i in
-    (omega arith, rw (add-one l.i, l.invariant.1, c.live_count-total.ensures.0), omega (arith, c.live_count-total.ensures.1))
 
 pub returns : goal.returns
 returns c =
-    let l = c.loop-i in
-    let n : l.i ≡ c.args.count = omega arith in
-    (rw (← n) l.invariant.1, omega arith)
+    sum_by_from_yields_List (λ t. live_count t) c.args.records.now c.map.result _ c.sum.ensures.ran
+    (YieldsList-from_map _ (λ t. live_count t) (YieldsList-at c.map.ensures.source (YieldsList-from_slice c.args.records.now (cc))) c.map.ensures.closure (λ x r q k. search (rules, tests)))
+    ∙ masses_list c.args.records.now

@@ -17,14 +17,14 @@ pub loop-i-init : goal.loop-i-init
 unfolding wide
 loop-i-init c = let a = c.args in (omega arith, c.requires.1, refl, words_none (part_in a.bytes.now a.p.now.count) a.words.now, offset_first a.bytes.now a.p.now.count)
 
-pub record_from-t-requires : goal.record_from-t-requires
+pub record_in-t-requires : goal.record_in-t-requires
 unfolding form_size record_offset
-record_from-t-requires c = omega (arith, c.requires.2.sized)
+record_in-t-requires c = omega (arith, c.requires.2.sized)
 
 live_is : (c : After-live_count-n)
     → c.live_count-n.result ≡ live_count (record_in c.args.bytes.now c.loop-i.i)
 unfolding record_offset
-live_is c = c.live_count-n.ensures.0 ∙ ap (λ (t : Threshold). live_count t) c.record_from-t.ensures
+live_is c = c.live_count-n.ensures.0 ∙ ap (λ (t : Threshold). live_count t) c.record_in-t.ensures
 
 fits-at : (c : After-live_count-n)
     → (c.live_count-n.result ≤ wide)

@@ -1,7 +1,6 @@
 -- The thresholds before place i pass.
 use mathlib.Core.Path.{◌≡◌}
 use mathlib.Core.Bool.{false}
-use Prim.Native.Nat.{◌-◌}
 use Rattle.plan.proofs.PlaceLaws.{Sought}
 use Rattle.saved_test.specs.Reading.{mass_offset}
 use Rattle.saved_test.specs.Inner.{part_passes}
@@ -9,6 +8,3 @@ use Rattle.saved_test.proofs.reading.parts_sound.Given as goal
 
 abbrev pub invariant-loop-i : goal.invariant-loop-i
 invariant-loop-i l = (l.at ≡ mass_offset l.bytes l.count l.i) × Sought false (part_passes l.p l.bytes l.n l.ones) l.count l.i
-
-abbrev pub decreases-loop-i : goal.decreases-loop-i
-decreases-loop-i l = l.count - l.i

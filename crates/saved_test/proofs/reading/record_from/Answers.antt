@@ -7,11 +7,11 @@ returns c =
     record_made _ _ _ _ _ _ _ _ _ _ _
     c.read_u32-code.ensures.0
     c.read_u32-step.ensures.0
-    c.read_u32-bits.ensures.0
-    c.read_u32-bits.ensures.1
+    c.read_u32.ensures.0
+    c.read_u32.ensures.1
     c.read_u32-upper.ensures.0
     c.read_u64-over.ensures
     c.read_u64-under.ensures
     c.read_u32-rounded.ensures.0
     c.mark_of-mark.ensures
-    c.signed_of-lower.ensures
+    c.cast_signed-lower.ensures

@@ -1,6 +1,7 @@
 -- The numbers first; then by cases on the mark.
 use mathlib.Core.Path.{◌≡◌, sym, ◌∙◌}
 use mathlib.Core.Bool.{true}
+use mathlib.Core.Logic.{⊎_elim}
 use Prim.Native.Nat.{◌+◌, ◌*◌, ◌≤◌}
 use lib.ListN.{length}
 use native.Mathlib.Omega.{arith}
@@ -39,7 +40,6 @@ returns-in-Open c =
     (c.masses_sound.ensures _ _ (there (goal.at.returns-in-Open c).After-live_count).0 c.weigh_in.ensures))
 
 pub returns-in-Above : goal.returns-in-Above
-returns-in-Above c = rw c.in-Above.is (sym (rw c.in-Above.is at (passed (goal.at.returns-in-Above c).Else-not-numbers_sound)))
-
-pub returns-in-AtMost : goal.returns-in-AtMost
-returns-in-AtMost c = rw c.in-AtMost.is (sym (rw c.in-AtMost.is at (passed (goal.at.returns-in-AtMost c).Else-not-numbers_sound)))
+returns-in-Above c =
+    let passes = passed (goal.at.returns-in-Above c).Else-not-numbers_sound in
+    ⊎_elim (λ is. rw is.1 (sym (rw is.1 at passes))) (λ is. rw is.1 (sym (rw is.1 at passes))) c.in-Above.is

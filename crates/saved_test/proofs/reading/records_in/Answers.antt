@@ -26,7 +26,7 @@ unfolding record_offset
 loop-i-preserved c =
     let l = c.loop-i in
     let a = c.args in
-    (omega arith, search rules, record_put (λ k _. record_in a.bytes.now k) (replicate count_limit start_record) l.records l.i l.invariant.2 no_record _ c.record_from-t.ensures)
+    (omega arith, search rules, record_put (λ k _. record_in a.bytes.now k) (replicate count_limit start_record) l.records l.i l.invariant.2 no_record _ c.record_in-t.ensures)
 
 pub returns : goal.returns
 returns c =

@@ -18,7 +18,7 @@ use Rattle.saved_test.proofs.writing.write_masses.Goals as goal
 
 pub loop-i-init : goal.loop-i-init
 unfolding join_to masses_to
-loop-i-init c = let a = c.args in (omega arith, refl, sym (put_none (header_size + record_size * a.count) a.bytes.now), omega arith)
+loop-i-init c = let a = c.args in (omega arith, refl, sym (put_none (header_size + record_size * length a.records.now) a.bytes.now), omega arith)
 
 pub slice_bounds-write_part-end : goal.slice_bounds-write_part-end
 unfolding wide
@@ -30,14 +30,14 @@ few-at c = rw c.live_count-n.ensures.0 (c.requires.2 c.loop-i.i c.loop-i-test.tr
 room_at : (c : After-live_count-n) → c.loop-i.at + 8 * c.live_count-n.result ≤ length c.args.bytes.now
 room_at c =
     let l = c.loop-i in
-    masses_room c.args.records c.args.words.now (header_size + record_size * c.args.count) l.i _ _ c.live_count-n.ensures.0 l.invariant.3 c.args.count _ c.loop-i-test.true c.requires.3
+    masses_room c.args.records.now c.args.words.now (header_size + record_size * length c.args.records.now) l.i _ _ c.live_count-n.ensures.0 l.invariant.3 (length c.args.records.now) _ c.loop-i-test.true c.requires.3
 
 pub write_part-requires : goal.write_part-requires
 unfolding wide
 write_part-requires c =
     let here = (goal.at.write_part-requires c).After-live_count-n in
     let l = c.loop-i in (
-      rw (part_lent l.i c.args.words.now, part_length c.args.words.now c.args.count l.i c.requires.1 c.loop-i-test.true) (few-at here),
+      rw (part_lent l.i c.args.words.now, part_length c.args.words.now (length c.args.records.now) l.i c.requires.1 c.loop-i-test.true) (few-at here),
       rw l.invariant.1 (room_at here),
     )
 
@@ -51,16 +51,16 @@ pub loop-i-preserved : goal.loop-i-preserved
 loop-i-preserved c =
     let l = c.loop-i in
     let live = c.live_count-n.ensures.0 in
-    let base = header_size + record_size * c.args.count in (
+    let base = header_size + record_size * length c.args.records.now in (
       omega arith,
       search rules,
-      masses_put c.args.records c.args.words.now base l.i _ _ live l.invariant.3 _ c.args.bytes.now l.bytes _ (part_lent l.i c.args.words.now) l.invariant.2 c.write_part.ensures (omega (arith, c.requires.3)),
-      masses_at c.args.records c.args.words.now base l.i _ _ live l.invariant.3,
+      masses_put c.args.records.now c.args.words.now base l.i _ _ live l.invariant.3 _ c.args.bytes.now l.bytes _ (part_lent l.i c.args.words.now) l.invariant.2 c.write_part.ensures (omega (arith, c.requires.3)),
+      masses_at c.args.records.now c.args.words.now base l.i _ _ live l.invariant.3,
     )
 
 pub returns : goal.returns
 returns c =
     let l = c.loop-i in
-    let n : l.i ≡ c.args.count = omega arith in
+    let n : l.i ≡ length c.args.records.now = omega arith in
     let a = c.args in
-    l.invariant.2 ∙ ap (λ (k : ℕ). put_at (header_size + record_size * a.count) (join_to k (λ m. mass_bytes (live_count (get_or a.records m no_record)) (part_at m a.words.now))) a.bytes.now) n
+    l.invariant.2 ∙ ap (λ (k : ℕ). put_at (header_size + record_size * length a.records.now) (join_to k (λ m. mass_bytes (live_count (get_or a.records.now m no_record)) (part_at m a.words.now))) a.bytes.now) n

@@ -5,15 +5,12 @@ use Rattle.bucket_test.specs.Turn.{no_record}
 use Rattle.bucket_test.specs.Words.{part_at}
 use Rattle.plan.specs.Places.{join_to}
 use lib.ListN.{length, get_or}
-use Prim.Native.Nat.{◌+◌, ◌*◌, ◌-◌, ◌≤◌}
+use Prim.Native.Nat.{◌+◌, ◌*◌, ◌≤◌}
 use mathlib.Core.Path.{◌≡◌}
 use Rattle.saved_test.proofs.writing.write_masses.Given as goal
 
 abbrev pub invariant-loop-i : goal.invariant-loop-i
 invariant-loop-i l =
-    (l.i ≤ l.count) × (length l.bytes ≡ length l.initial.bytes)
-    × (l.bytes ≡ put_at (header_size + record_size * l.count) (join_to l.i (λ k. mass_bytes (live_count (get_or l.records k no_record)) (part_at k l.words))) l.initial.bytes)
-    × (l.at ≡ header_size + record_size * l.count + mass_size * masses_to (λ k. get_or l.records k no_record) l.i)
-
-abbrev pub decreases-loop-i : goal.decreases-loop-i
-decreases-loop-i l = l.count - l.i
+    (l.i ≤ length l.records) × (length l.bytes ≡ length l.initial.bytes)
+    × (l.bytes ≡ put_at (header_size + record_size * length l.records) (join_to l.i (λ k. mass_bytes (live_count (get_or l.records k no_record)) (part_at k l.words))) l.initial.bytes)
+    × (l.at ≡ header_size + record_size * length l.records + mass_size * masses_to (λ k. get_or l.records k no_record) l.i)
