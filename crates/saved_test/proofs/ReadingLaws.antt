@@ -8,7 +8,9 @@ use mathlib.Core.Bool.{Bool, true, false, ◌&&◌}
 use lib.ListN.{length, take, replicate, length-replicate, replicate-append-replicate}
 use lib.Seq.{length-take-le}
 use Rattle.walk.specs.Numbers.{le?, sum, all_up_to}
-use Rattle.walk.specs.Units.{M, wide, mass_limit}
+use Rattle.walk.specs.Units.{M, wide, mass_limit, horizon_limit}
+use Rattle.plan.proofs.AcceptedLaws.{accepted}
+use Rattle.plan.proofs.SpendingLaws.{portion_fits}
 use Rattle.walk.specs.Record.{first_above, row_of}
 use Rattle.walk.specs.Soundness.{rounded_fits, words_sound}
 use Rattle.walk.specs.declared.Walked.{Walked}
@@ -39,7 +41,7 @@ use Rattle.plan.specs.Plan.{count_limit, spending_of, plan_refusal}
 use Rattle.bucket_test.specs.Turn.{record_at, numbers_sound, record_sound, record_sound_at}
 use Rattle.bucket_test.specs.Draw.{state_sound, no_state}
 use Rattle.saved_test.specs.Form.{header_size, record_size, draws_field, ones_field, mass_size, record_offset, form_size, counts_between, live_count, masses_to}
-use Rattle.saved_test.specs.Inner.{RecordsAndMasses, part_passes}
+use Rattle.saved_test.specs.Inner.{Judgeable, RecordsAndMasses, part_passes}
 use Rattle.saved_test.specs.Reading.{mark_of, record_from, record_in, record_fits, mass_offset, part_in, masses_in, header_fits, form_fits, state_in, words_in, read_refusal, Loaded, loaded_as, loaded, words_after}
 use Rattle.saved_test.proofs.Judged.{gap_live}
 use Rattle.saved_test.proofs.HeldLaws.{record_held, part_held}
@@ -168,6 +170,23 @@ module _ (p : Plan) (bytes : List ℕ) (form : form_fits p bytes ≡ true) where
     records = (and_true (header_fits p bytes) _ (and_true (eq? (length bytes) (form_size p.count (masses_in p bytes))) _ form).1).1;
     sized = ((form_says p bytes).0 form).sized;
   }
+
+  pub judgeable : (n : ℕ) → plan_refusal p ≡ 0 → (p.horizon ≤ horizon_limit) × Judgeable p n bytes
+  judgeable n e = let ok = (accepted p).0 e in (
+    ok.horizon_range.1,
+    record {
+      few = ok.count_range.1;
+      few_points = ok.points_sound.few;
+      allowed = λ i l. (ok.allowance_range i l).1;
+      spendable = portion_fits p ok n;
+      held = form_held;
+    },
+  )
+
+-- records have a header before them
+pub held_long : (count : ℕ) (bytes : List ℕ) → RecordsAndMasses count bytes → 24 ≤ length bytes
+unfolding form_size record_offset
+held_long count bytes h = omega (arith, h.sized)
 
 -- ---- refusal 11, part by part
 

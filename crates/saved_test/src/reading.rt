@@ -12,7 +12,7 @@ ghost use Rattle.little.specs.Little.{field, column, filled};
 ghost use Rattle.saved_test.specs.Form.{header_size, count_field, masses_field, record_offset_field, mass_offset_field, size_field, record_size_field, mass_size_field};
 ghost use Rattle.saved_test.specs.Form.{draws_field, record_size, step_field, mass_size, live_count, masses_to};
 ghost use Rattle.saved_test.specs.Reading.{mark_known, count_fits, record_from, record_in, record_fits, part_in, state_in, words_in, form_fits, loaded_as, loaded, words_after};
-ghost use Rattle.saved_test.specs.Inner.{RecordsAndMasses, part_passes};
+ghost use Rattle.saved_test.specs.Inner.{RecordsAndMasses, Judgeable, part_passes};
 
 use crate::form::{
     COUNT_FIELD, DRAWS_FIELD, HEADER_SIZE, LOWER_FIELD, MASS_OFFSET_FIELD, MASS_SIZE,
@@ -224,7 +224,7 @@ fn record_sound_in(bytes: &[u8], at: usize, t: Threshold, e: u64, n: u32, ones: 
 
 // Whether each of the thresholds that the bytes hold passes refusal 11 after n draws with so many ones.
 fn parts_sound(p: &Plan, bytes: &[u8], n: u32, ones: u32) -> bool
-    requires { (plan_refusal p.now ≡ 0) × (n ≤ horizon_limit) × RecordsAndMasses p.now.count bytes.now }
+    requires { (n ≤ horizon_limit) × Judgeable p.now n bytes.now }
     ensures { result ≡ all_to p.now.count (part_passes p.now bytes.now n ones) }
 {
     let count = p.count as usize;
@@ -241,9 +241,9 @@ fn parts_sound(p: &Plan, bytes: &[u8], n: u32, ones: u32) -> bool
     true
 }
 
-// Refusal 11 of the test that the bytes hold, where the plan is accepted and the form fits.
+// Refusal 11 of the test that the bytes hold, under a plan with such numbers, as an accepted one, and where the form fits.
 pub fn state_sound_in(p: &Plan, bytes: &[u8]) -> bool
-    requires { (plan_refusal p.now ≡ 0) × (form_fits p.now bytes.now ≡ true) }
+    requires { (p.now.horizon ≤ horizon_limit) × Judgeable p.now (field 4 draws_field bytes.now) bytes.now }
     ensures { result ≡ state_sound p.now (state_in p.now bytes.now) (words_in p.now bytes.now) }
 {
     let n = read_u32(bytes, DRAWS_FIELD);

@@ -7,6 +7,7 @@ use Rattle.plan.proofs.PlaceLaws.{first_one}
 use Rattle.plan.proofs.AcceptedLaws.{accepted}
 use Rattle.bucket_test.specs.Answers.{answer_of, is_ending}
 use Rattle.saved_test.specs.Reading.{state_in, form_fits}
+use Rattle.saved_test.proofs.ReadingLaws.{judgeable}
 use Rattle.calls.proofs.CallLaws.{on_form, past_form}
 use Rattle.calls.proofs.drawing.judge_draw.Goals.{After-form_fits, After-has_ended, In_ok-ensure, In_ok-ensure-2, In_ok-ensure-3}
 use Rattle.calls.proofs.drawing.judge_draw.Goals as goal
@@ -30,7 +31,7 @@ pub has_ended-requires : goal.has_ended-requires
 has_ended-requires c = (c.requires, form (goal.at.has_ended-requires c).In_ok-ensure)
 
 pub state_sound_in-requires : goal.state_sound_in-requires
-state_sound_in-requires c = (c.requires, form (goal.at.state_sound_in-requires c).In_ok-ensure)
+state_sound_in-requires c = judgeable _ _ (form (goal.at.state_sound_in-requires c).In_ok-ensure) _ c.requires
 
 -- ---- what is handed back
 

@@ -10,8 +10,7 @@ use borrow.Author.Rules.{rules}
 use Rattle.walk.specs.Spending.{portioned}
 use Rattle.walk.specs.Units.{wide}
 use Rattle.plan.proofs.PlaceLaws.{passed, failed, sought_none, sought_next, sought_here, sought_nowhere}
-use Rattle.plan.proofs.AcceptedLaws.{accepted}
-use Rattle.plan.proofs.SpendingLaws.{spent_is, may_spend}
+use Rattle.plan.proofs.SpendingLaws.{spent_is}
 use Rattle.bucket_test.specs.declared.Threshold.{Threshold}
 use Rattle.saved_test.specs.Form.{record_offset, form_size, live_count}
 use Rattle.saved_test.specs.Reading.{record_in, mass_offset}
@@ -21,13 +20,13 @@ use Rattle.saved_test.proofs.reading.parts_sound.Goals.{After-record_in-t, After
 use Rattle.saved_test.proofs.reading.parts_sound.Goals as goal
 
 pub portion_at-portion-requires : goal.portion_at-portion-requires
-portion_at-portion-requires c = ((accepted _).0 c.requires.0).points_sound.few
+portion_at-portion-requires c = c.requires.1.few_points
 
 pub overflow_mul-at : goal.overflow_mul-at
-overflow_mul-at c = let k = ((accepted _).0 c.requires.0).count_range.1 in omega arith
+overflow_mul-at c = let k = c.requires.1.few in omega arith
 
 pub overflow_add-at : goal.overflow_add-at
-overflow_add-at c = let k = ((accepted _).0 c.requires.0).count_range.1 in omega arith
+overflow_add-at c = let k = c.requires.1.few in omega arith
 
 pub loop-i-init : goal.loop-i-init
 loop-i-init c = (offset_first _ _, sought_none false _)
@@ -37,7 +36,7 @@ below {n} xs h = omega (arith, length-take n xs)
 
 pub record_in-t-requires : goal.record_in-t-requires
 unfolding form_size record_offset
-record_in-t-requires c = omega (arith, c.requires.2.sized, below c.args.p.now.allowances c.loop-i-test.true)
+record_in-t-requires c = omega (arith, c.requires.1.held.sized, below c.args.p.now.allowances c.loop-i-test.true)
 
 -- what is known of the threshold at place i
 module _ (c : After-record_in-t) where
@@ -54,19 +53,20 @@ module _ (c : After-record_in-t) where
   lent =
       let l = c.loop-i in
       let h = below c.args.p.now.allowances c.loop-i-test.true in (
-        held_few _ _ c.requires.2 l.i h _ l.at live l.invariant.0,
-        held_inside _ _ c.requires.2 l.i h _ l.at live l.invariant.0,
-        held_next _ _ c.requires.2 l.i h _ l.at live l.invariant.0,
+        held_few _ _ c.requires.1.held l.i h _ l.at live l.invariant.0,
+        held_inside _ _ c.requires.1.held l.i h _ l.at live l.invariant.0,
+        held_next _ _ c.requires.1.held l.i h _ l.at live l.invariant.0,
       )
 
 pub shared_ref_as_front-allowance-items : goal.shared_ref_as_front-allowance-items
-shared_ref_as_front-allowance-items c = ((accepted _).0 c.requires.0).count_range.1
+shared_ref_as_front-allowance-items c = c.requires.1.few
 
 pub spending_at-e-requires : goal.spending_at-e-requires
 spending_at-e-requires c =
     let here = below c.args.p.now.allowances c.loop-i-test.true in
-    rw (get_or-take c.args.p.now.count c.args.p.now.allowances c.loop-i.i 0 here)
-    (may_spend _ ((accepted _).0 c.requires.0) c.loop-i.i c.args.n here c.requires.1 _ c.portion_at-portion.ensures)
+    let k = c.requires.1.spendable c.requires.0 in
+    rw (get_or-take c.args.p.now.count c.args.p.now.allowances c.loop-i.i 0 here, c.portion_at-portion.ensures)
+    (c.requires.1.allowed c.loop-i.i here, k.0, k.1)
 
 pub record_sound_in-requires : goal.record_sound_in-requires
 record_sound_in-requires c = let b = (goal.at.record_sound_in-requires c).After-record_in-t in ((lent b).0, (lent b).1)
@@ -80,7 +80,7 @@ judged c =
     let spent = c.spending_at-e.ensures ∙ ap (portioned c.portion_at-portion.result) allowance in
     c.record_sound_in.ensures
     ∙ rw (spent_is c.args.p.now l.i c.args.n _ _ c.portion_at-portion.ensures spent)
-    (held_sound _ _ c.requires.2 l.i (below c.args.p.now.allowances c.loop-i-test.true) _ l.at (ap (λ (t : Threshold). live_count t) is) l.invariant.0 _ is _ _ _)
+    (held_sound _ _ c.requires.1.held l.i (below c.args.p.now.allowances c.loop-i-test.true) _ l.at (ap (λ (t : Threshold). live_count t) is) l.invariant.0 _ is _ _ _)
 
 pub returns-then-not-record_sound_in : goal.returns-then-not-record_sound_in
 returns-then-not-record_sound_in c =
@@ -102,5 +102,5 @@ loop-i-preserved c =
 pub returns : goal.returns
 returns c =
     let long : length c.args.p.now.allowances ≡ 10 = search rules in
-    let k = ((accepted _).0 c.requires.0).count_range.1 in
+    let k = c.requires.1.few in
     sought_nowhere false _ c.loop-i.invariant.1 (omega (arith, length-take c.args.p.now.count c.args.p.now.allowances))

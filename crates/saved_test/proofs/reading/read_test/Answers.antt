@@ -11,7 +11,7 @@ use Rattle.bucket_test.specs.Words.{words_fit}
 use Rattle.bucket_test.specs.Draw.{state_sound}
 use Rattle.bucket_test.proofs.PartLaws.{words_say}
 use Rattle.saved_test.specs.Reading.{form_fits, state_in, words_in, read_refusal}
-use Rattle.saved_test.proofs.ReadingLaws.{form_long, form_held, as_read, read_refused, read_plan, read_none}
+use Rattle.saved_test.proofs.ReadingLaws.{form_long, form_held, judgeable, as_read, read_refused, read_plan, read_none}
 use Rattle.saved_test.proofs.reading.read_test.Goals.{In_ok-judge, After-ensure, In_ok-ensure, In_ok-ensure-2, In_ok-ensure-3}
 use Rattle.saved_test.proofs.reading.read_test.Goals as goal
 
@@ -39,7 +39,7 @@ pub form_fits-requires : goal.form_fits-requires
 form_fits-requires c = few (goal.at.form_fits-requires c).In_ok-judge
 
 pub state_sound_in-requires : goal.state_sound_in-requires
-state_sound_in-requires c = (accepts (goal.at.state_sound_in-requires c).In_ok-judge, form (goal.at.state_sound_in-requires c).In_ok-ensure-2)
+state_sound_in-requires c = judgeable _ _ (form (goal.at.state_sound_in-requires c).In_ok-ensure-2) _ (accepts (goal.at.state_sound_in-requires c).In_ok-judge)
 
 pub state_in-state-requires : goal.state_in-state-requires
 state_in-state-requires c = (few (goal.at.state_in-state-requires c).In_ok-judge, form_long _ _ (form (goal.at.state_in-state-requires c).In_ok-ensure-2))

@@ -4,25 +4,24 @@ use Prim.Native.Nat.{◌<◌}
 use native.Mathlib.Omega.{arith}
 use Rattle.walk.specs.Numbers.{le?}
 use Rattle.walk.proofs.Tests.{le?_fails}
-use Rattle.plan.proofs.AcceptedLaws.{accepted}
-use Rattle.saved_test.proofs.ReadingLaws.{form_long, form_held, sound_late, sound_ones, sound_parts}
+use Rattle.saved_test.proofs.ReadingLaws.{held_long, sound_late, sound_ones, sound_parts}
 use Rattle.saved_test.proofs.reading.state_sound_in.Goals.{then-n-p, else-n-p}
 use Rattle.saved_test.proofs.reading.state_sound_in.Goals as goal
 
 pub read_u32-n-requires : goal.read_u32-n-requires
-read_u32-n-requires c = omega (arith, form_long _ _ c.requires.1)
+read_u32-n-requires c = omega (arith, held_long _ _ c.requires.1.held)
 
 pub read_u32-ones-requires : goal.read_u32-ones-requires
-read_u32-ones-requires c = omega (arith, form_long _ _ c.requires.1)
+read_u32-ones-requires c = omega (arith, held_long _ _ c.requires.1.held)
 
 pub parts_sound-requires : goal.parts_sound-requires
 parts_sound-requires c =
-    (c.requires.0, omega (arith, ((accepted _).0 c.requires.0).horizon_range.1), form_held _ _ c.requires.1)
+    (omega (arith, c.requires.0), rw c.read_u32-n.ensures.0 c.requires.1)
 
 pub returns-then-ones-n : goal.returns-then-ones-n
 returns-then-ones-n c =
     sound_parts _ _ _ _ c.read_u32-n.ensures.0 c.read_u32-ones.ensures.0 c.if-ones-n.true.0 c.if-ones-n.true.1
-    ((accepted _).0 c.requires.0).count_range.1 _ c.parts_sound.ensures
+    c.requires.1.few _ c.parts_sound.ensures
 
 pub returns-else-ones-n : goal.returns-else-ones-n
 unfolding le?
