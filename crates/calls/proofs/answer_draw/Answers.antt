@@ -1,7 +1,6 @@
 -- The refusal of the plan bytes, then of the draw under their plan, else the draw.
-use mathlib.Core.Path.{sym}
 use Rattle.calls.proofs.BeginLaws.{plan_good, draw_refused, draw_goes_on}
-use Rattle.calls.proofs.CallLaws.{ready, first_on, hands_refusal}
+use Rattle.calls.proofs.CallLaws.{first_on, hands_refusal}
 use Rattle.calls.proofs.answer_draw.Goals as goal
 
 pub returns-in_err-p : goal.returns-in_err-p
@@ -16,9 +15,6 @@ returns-in_err-judge_draw c =
     let p = c.in_ok-p.p in
     rw (draw_goes_on _ _ c.in_ok-p.ensures a.saved.now a.draw a.lent.now)
     (hands_refusal p _ a.lent.now _ _ (first_on p a.saved.now a.draw a.lent.now _ c.in_err-judge_draw.ensures) _ c.from_residual-in_err-judge_draw.ensures.1)
-
-pub take-requires : goal.take-requires
-take-requires c = ready _ _ _ (sym c.in_ok-judge_draw.ensures)
 
 pub returns : goal.returns
 returns c = rw (draw_goes_on _ _ c.in_ok-p.ensures c.args.saved.now c.args.draw c.args.lent.now) c.take.ensures

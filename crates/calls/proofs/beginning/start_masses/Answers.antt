@@ -12,10 +12,6 @@ pub loop-i-init : goal.loop-i-init
 unfolding record_offset
 loop-i-init c = let a = c.args in put_start (λ k. to_le mass_size M) mass_size (λ k. to_length mass_size M) (record_offset a.count) a.count a.lent.now
 
-pub overflow_add-at-in-loop-i : goal.overflow_add-at-in-loop-i
-unfolding record_offset
-overflow_add-at-in-loop-i c = search rules
-
 pub write_le-requires : goal.write_le-requires
 unfolding record_offset
 write_le-requires c = search rules

@@ -8,7 +8,7 @@ use Rattle.plan.proofs.AcceptedLaws.{accepted}
 use Rattle.bucket_test.specs.Answers.{answer_of, is_ending}
 use Rattle.saved_test.specs.Reading.{state_in, form_fits}
 use Rattle.saved_test.proofs.ReadingLaws.{judgeable}
-use Rattle.calls.proofs.CallLaws.{on_form, past_form}
+use Rattle.calls.proofs.CallLaws.{past_form}
 use Rattle.calls.proofs.drawing.judge_draw.Goals.{After-form_fits, After-has_ended, In_ok-ensure, In_ok-ensure-2, In_ok-ensure-3}
 use Rattle.calls.proofs.drawing.judge_draw.Goals as goal
 
@@ -27,18 +27,10 @@ bit c = kept {b = le? c.args.draw 1} refl _ c.in_ok-ensure-2.ensures
 going : (c : In_ok-ensure-3) → let a = c.args in not (is_ending (answer_of a.p.now (state_in a.p.now a.saved.now))) ≡ true
 going c = kept (ap not c.has_ended.ensures) _ c.in_ok-ensure-3.ensures
 
-pub has_ended-requires : goal.has_ended-requires
-has_ended-requires c = (c.requires, form (goal.at.has_ended-requires c).In_ok-ensure)
-
 pub state_sound_in-requires : goal.state_sound_in-requires
 state_sound_in-requires c = judgeable _ _ (form (goal.at.state_sound_in-requires c).In_ok-ensure) _ c.requires
 
 -- ---- what is handed back
-
-pub returns-in_err-ensure : goal.returns-in_err-ensure
-returns-in_err-ensure c =
-    let b = broken c.form_fits.ensures _ _ c.in_err-ensure.ensures in
-    handed_on c.from_residual.result _ c.from_residual.ensures.1 (b.1 ∙ sym (on_form c.args.p.now c.args.saved.now c.args.draw b.0))
 
 pub returns-in_err-ensure-2 : goal.returns-in_err-ensure-2
 unfolding le?

@@ -8,9 +8,6 @@ use Rattle.saved_test.specs.Form.{record_offset, live_count}
 use Rattle.saved_test.specs.Reading.{record_in}
 use Rattle.calls.proofs.drawing.most_masses.Goals as goal
 
-pub loop-i-init : goal.loop-i-init
-loop-i-init c = (omega arith, λ k l. absurd (omega arith))
-
 pub record_from-requires : goal.record_from-requires
 unfolding record_offset
 record_from-requires c = omega (arith, c.requires.1, c.loop-i-test.true)
@@ -24,6 +21,3 @@ loop-i-preserved c =
       λ k h.
           ⊎_elim (λ g. let e : k ≡ l.i = omega arith in rw e (omega (arith, here, c.max-most.ensures))) (λ g. omega (arith, l.invariant.1 k g, c.max-most.ensures)) (le_or_lt l.i k),
     )
-
-pub returns : goal.returns
-returns c = λ i h. c.loop-i.invariant.1 i (omega (arith, c.loop-i-test.false))

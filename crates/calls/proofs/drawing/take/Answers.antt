@@ -3,12 +3,8 @@ use native.Mathlib.Omega.{arith}
 use Rattle.walk.specs.Units.{horizon_limit}
 use Rattle.plan.specs.Places.{eq?}
 use Rattle.calls.proofs.Taking.{numbered, risen, few_buckets}
-use Rattle.calls.proofs.CallLaws.{hands_room, hands_taken}
+use Rattle.calls.proofs.CallLaws.{hands_taken}
 use Rattle.calls.proofs.drawing.take.Goals as goal
-
-pub returns-in_err-after : goal.returns-in_err-after
-returns-in_err-after c =
-    hands_room _ _ _ c.args.lent.now c.requires _ _ c.in_err-after.ensures _ c.from_residual.ensures.1
 
 pub read_u32-n-requires : goal.read_u32-n-requires
 read_u32-n-requires c = omega (arith, numbered c.requires)

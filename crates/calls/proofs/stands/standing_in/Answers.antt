@@ -1,5 +1,4 @@
 -- After i places s is how the first i records stand; its high never passes a million, as `seen` asks.
-use mathlib.Core.Path.{◌≡◌}
 use native.Mathlib.Omega.{arith}
 use Rattle.saved_test.specs.Form.{record_offset}
 use Rattle.saved_test.specs.Reading.{record_in}
@@ -13,12 +12,6 @@ pub record_from-t-requires : goal.record_from-t-requires
 unfolding record_offset
 record_from-t-requires c = omega (arith, c.requires.1, c.loop-i-test.true)
 
-pub bounds-p-i : goal.bounds-p-i
-bounds-p-i c = omega (arith, c.requires.0, c.loop-i-test.true)
-
-pub seen-s-requires : goal.seen-s-requires
-seen-s-requires c = c.loop-i.invariant.2
-
 pub loop-i-preserved : goal.loop-i-preserved
 unfolding record_offset
 loop-i-preserved c =
@@ -28,9 +21,3 @@ loop-i-preserved c =
       seen_next _ (record_in _) l.i l.s _ _ c.record_from-t.ensures l.invariant.1 e.0 e.1 e.2,
       omega (arith, e.1, l.invariant.2),
     )
-
-pub returns : goal.returns
-returns c =
-    let l = c.loop-i in
-    let e : l.i ≡ c.args.p.now.count = omega (arith, l.invariant.0, c.loop-i-test.false) in
-    rw e at l.invariant.1

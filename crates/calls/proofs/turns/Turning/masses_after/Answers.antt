@@ -11,12 +11,6 @@ use Rattle.calls.proofs.TurnLaws.{few, old_next, old_small, new_few, new_live, n
 use Rattle.calls.proofs.turns.Turning.masses_after.Goals.{In-loop-i, After-record_from-t}
 use Rattle.calls.proofs.turns.Turning.masses_after.Goals as goal
 
-pub overflow_mul-at : goal.overflow_mul-at
-overflow_mul-at c = omega (arith, few c.requires.0)
-
-pub overflow_add-at : goal.overflow_add-at
-overflow_add-at c = omega (arith, few c.requires.0)
-
 pub loop-i-init : goal.loop-i-init
 unfolding masses_to
 loop-i-init c = (omega arith, refl, offset_first _ _, refl)
@@ -46,9 +40,6 @@ old : (c : After-record_from-t) → let t = c.record_from-t.result in
 unfolding record_offset
 old c = old_next c.requires.0 c.loop-i.i c.loop-i-test.true _ c.record_from-t.ensures c.loop-i.at c.loop-i.invariant.2
 
-pub overflow_mul-at-in-loop-i : goal.overflow_mul-at-in-loop-i
-overflow_mul-at-in-loop-i c = omega (arith, (old (goal.at.overflow_mul-at-in-loop-i c).After-record_from-t).0, old_small c.requires.0, c.live_count.ensures.0)
-
 pub overflow_add-at-in-loop-i : goal.overflow_add-at-in-loop-i
 overflow_add-at-in-loop-i c = omega (arith, (old (goal.at.overflow_add-at-in-loop-i c).After-record_from-t).0, old_small c.requires.0, c.live_count.ensures.0)
 
@@ -60,9 +51,3 @@ loop-i-preserved c =
       rw c.live_count.ensures.0 (old (goal.at.loop-i-preserved c).After-record_from-t).1,
       rw l.invariant.3 (new_masses_lem c.requires.0 l.i c.loop-i-test.true _ c.turn_at-next.ensures.0 _ c.live_count-masses.ensures.0),
     )
-
-pub returns : goal.returns
-returns c =
-    let l = c.loop-i in
-    let e : l.i ≡ c.args.self.now.plan.now.count = omega (arith, l.invariant.0, c.loop-i-test.false) in
-    rw e at l.invariant.3

@@ -14,12 +14,6 @@ use Rattle.calls.proofs.TurnLaws.{seen_none, seen_next, few, offset, old_next, o
 use Rattle.calls.proofs.turns.Turning.turn_through.Goals.{In-loop-i, After-record_from-t, After-live_count-live}
 use Rattle.calls.proofs.turns.Turning.turn_through.Goals as goal
 
-pub overflow_mul-front : goal.overflow_mul-front
-overflow_mul-front c = omega (arith, few c.requires.0)
-
-pub overflow_add-front : goal.overflow_add-front
-overflow_add-front c = omega (arith, few c.requires.0)
-
 pub loop-i-init : goal.loop-i-init
 unfolding join_to masses_to million
 loop-i-init c =
@@ -90,9 +84,6 @@ write_record-requires c = omega (arith, c.requires.2, c.loop-i.invariant.lent_si
 pub bounds-self-i : goal.bounds-self-i
 bounds-self-i c = place (goal.at.bounds-self-i c).In-loop-i
 
-pub seen-standing-requires : goal.seen-standing-requires
-seen-standing-requires c = c.loop-i.invariant.high
-
 pub overflow_add-masses : goal.overflow_add-masses
 unfolding wide
 overflow_add-masses c = let b = small (goal.at.overflow_add-masses c).After-live_count-live in omega (arith, b.0, b.1, place (goal.at.overflow_add-masses c).In-loop-i)
@@ -103,9 +94,6 @@ old : (c : After-record_from-t) → let t = c.record_from-t.result in
     × (c.loop-i.at + mass_size * live_count t ≡ mass_offset c.args.self.now.saved.now c.args.self.now.plan.now.count (c.loop-i.i + 1))
 unfolding record_offset
 old c = old_next c.requires.0 c.loop-i.i c.loop-i-test.true _ c.record_from-t.ensures c.loop-i.at c.loop-i.invariant.at_is
-
-pub overflow_mul-at : goal.overflow_mul-at
-overflow_mul-at c = omega (arith, (old (goal.at.overflow_mul-at c).After-record_from-t).0, old_small c.requires.0, c.live_count.ensures.0)
 
 pub overflow_add-at : goal.overflow_add-at
 overflow_add-at c = omega (arith, (old (goal.at.overflow_add-at c).After-record_from-t).0, old_small c.requires.0, c.live_count.ensures.0)
