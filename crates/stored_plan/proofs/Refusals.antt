@@ -6,7 +6,7 @@ use mathlib.Core.Logic.{◌↔◌}
 use Prim.Native.Nat.{ℕ, zero, suc, ◌≤◌, ◌<◌}
 use native.Mathlib.Omega.{arith}
 use lib.ListN.{length, drop}
-use Rattle.std.specs.Prelude.{Result}
+use Rattle.std.specs.Prelude.{Result, Ok, Err}
 use Rattle.std.specs.Result.{IsErrAnd}
 use Rattle.std.proofs.lemmas.Result.{err_from_is_err_and}
 use Rattle.walk.specs.Numbers.{le?}
@@ -21,7 +21,7 @@ use Rattle.plan.proofs.PlaceLaws.{both, le_reads, eq?_fails, eq_reads, first_som
 use Rattle.plan.proofs.AcceptedLaws.{Counted, counts_say, plan_other}
 use Rattle.little.specs.Little.{field}
 use Rattle.stored_plan.specs.Form.{header_size, threshold_offset_field, bucket_offset_field, bucket_offset, form_size, form_limit, encoded}
-use Rattle.stored_plan.specs.Reading.{count_in, buckets_in, plan_in, offsets_fit, length_fits, form_refusal, read_refusal, no_plan, decoded, read_as}
+use Rattle.stored_plan.specs.Reading.{count_in, buckets_in, plan_in, offsets_fit, length_fits, form_refusal, read_refusal, no_plan, decoded, lent_as}
 use Rattle.stored_plan.specs.Writing.{write_refusal, written, bytes_after}
 use Rattle.stored_plan.proofs.FormLaws.{longest}
 
@@ -57,11 +57,15 @@ module _ (bytes : List ℕ) where
     pub past_form : form_refusal bytes ≡ 0 → read_refusal bytes ≡ plan_refusal (plan_in bytes)
     past_form z = past_header e ∙ rw z (first_one (plan_refusal (plan_in bytes)))
 
-  -- a refused reading, as code hands it back by `?`
-  pub read_refused : (r : Result Plan Refusal) (d : Refusal) → IsErrAnd r (λ f. f ≡ d) → read_refusal bytes ≡ number_of d → read_as r ≡ decoded bytes
-  read_refused r d h e =
-      let p = err_from_is_err_and r h in
-      rw (p.1, p.2) (decoded_some (number_of d) (λ z. omega (arith, number_is d)) e)
+  -- what code hands back, by its refusal; and where `?` hands it on
+  pub lent_judged : {A : Type 0} (r : Result A Refusal) (p : Plan) → refusal_in r ≡ read_refusal bytes → p ≡ plan_in bytes → lent_as r p ≡ decoded bytes
+  lent_judged (Ok x) p e f = rw f (decoded_none (sym e))
+  lent_judged (Err d) p e f = decoded_some (number_of d) (λ z. omega (arith, number_is d)) (sym e)
+
+  pub read_refused : {A : Type 0} (r : Result A Refusal) (d : Refusal) (p : Plan) → IsErrAnd r (λ f. f ≡ d) → read_refusal bytes ≡ number_of d → lent_as r p ≡ decoded bytes
+  read_refused r d p h e =
+      let q = err_from_is_err_and r h in
+      rw (q.1, q.2) (decoded_some (number_of d) (λ z. omega (arith, number_is d)) e)
 
   -- what the tests of a form say
   abbrev pub Counts : Type 0

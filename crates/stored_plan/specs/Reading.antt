@@ -80,3 +80,8 @@ decoded bytes = decoded_by (read_refusal bytes) bytes
 abbrev pub read_as : Result Plan Refusal → Read
 read_as (Ok p) = record { refusal = 0; plan = p }
 read_as (Err r) = record { refusal = number_of r; plan = no_plan }
+
+-- the same where the plan stands in a lent place
+abbrev pub lent_as : {A : Type 0} → Result A Refusal → Plan → Read
+lent_as (Ok x) p = record { refusal = 0; plan = p }
+lent_as (Err r) p = record { refusal = number_of r; plan = no_plan }
