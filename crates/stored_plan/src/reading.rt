@@ -40,7 +40,7 @@ fn judge_form(bytes: &[u8]) -> Result<(), Refusal>
     ensure(bytes.len() == form_size(count, buckets), Refusal::Form)
 }
 
-// The thresholds and the allowances of so many entries, into the first places of their tables.
+// The thresholds and the allowances of so many entries, into the first places of their tables: by an index, since an entry fills a place of both.
 fn thresholds_in(
     bytes: &[u8],
     count: usize,
@@ -96,7 +96,7 @@ fn plan_into(bytes: &[u8], plan: &mut Plan)
     buckets_in(bytes, at, b, &mut plan.left, &mut plan.right);
 }
 
-// The same as `read_plan`, into lent zeros, which no longer are any, also on a refusal: a plan that is handed back is copied.
+// The same as `read_plan` into a lent plan of zeros, of which nothing is said on a refusal: a plan that is handed back is copied.
 pub fn read_into(bytes: &[u8], plan: &mut Plan) -> Result<(), Refusal>
     requires { plan.old ≡ no_plan }
     ensures { lent_as result plan.new ≡ decoded bytes.now }
