@@ -17,7 +17,8 @@ use bucket_choice::choosing::Interval;
 use bucket_test::Answer;
 use drawing::{judge_draw, take};
 use refusals::Refusal;
-use stored_plan::reading::read_plan;
+use stored_plan::NO_PLAN;
+use stored_plan::reading::{read_into, read_plan};
 
 // How the records of a test stand to the answer rule: the interval, and whether an open threshold is wide.
 #[derive(Clone, Copy)]
@@ -48,10 +49,13 @@ pub fn vimorake_begin(plan: &[u8], lent: &mut [u8]) -> u32
     returned(answer_beginning(plan, lent))
 }
 
+// The plan is read into its place, since one that is handed back is copied: on a short form that costs as much as the rest of the reading.
+#[tactic(auto, unfolding(stored_plan::specs::Reading::no_plan))]
 fn answer_draw(plan: &[u8], saved: &[u8], draw: u32, lent: &mut [u8]) -> Result<Answer, Refusal>
     ensures { Hands (called_draw plan.now saved.now draw lent.old) result lent.new }
 {
-    let p = read_plan(plan)?;
+    let mut p = NO_PLAN;
+    read_into(plan, &mut p)?;
     judge_draw(&p, saved, draw)?;
     take(&p, saved, draw, lent)
 }

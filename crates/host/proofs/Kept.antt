@@ -11,11 +11,12 @@ use Rattle.counting.specs.Run.{kind_of, first_of, second_of}
 use Rattle.counting.specs.declared.Drawn.{Drawn as Counted}
 use Rattle.counting.specs.declared.Answer.{Answer as Count}
 use Rattle.counting.specs.declared.Answer.TheVariants as counts
-use Rattle.host.specs.States.{mark_in, mark_case, mark_step, answer_in, answer_case, answer_number, record_in, record_out, drawn_in, drawn_out}
+use Rattle.saved_test.specs.Form.{mark_code, mark_step}
+use Rattle.host.specs.States.{mark_in, answer_in, answer_case, answer_number, record_in, record_out, drawn_in, drawn_out}
 use Rattle.host.specs.Runs as runs
 use Rattle.host.specs.Runs.{run_out}
 
-mark-kept : (m : Mark) → mark_in (mark_case m) (mark_step m) ≡ m
+mark-kept : (m : Mark) → mark_in (mark_code m) (mark_step m) ≡ m
 mark-kept Open = refl
 mark-kept (Above t) = refl
 mark-kept (AtMost t) = refl

@@ -9,29 +9,20 @@ use Rattle.bucket_test.specs.declared.Threshold.{Threshold}
 use Rattle.bucket_test.specs.declared.State.{State}
 use Rattle.bucket_test.specs.declared.Drawn.{Drawn}
 use Rattle.bucket_test.specs.declared.Report.{Report}
+use Rattle.saved_test.specs.Form.{mark_code, mark_step}
 use Rattle.host.specs.declared.HostRecord.{HostRecord}
 use Rattle.host.specs.declared.HostState.{HostState}
 use Rattle.saved_test.specs.Reading.{Loaded}
 use Rattle.host.specs.declared.HostTest.{HostTest}
 use Rattle.host.specs.declared.HostReport.{HostReport}
 
--- ---- a mark: 1 above and 2 at most, at a step, any other number open
+-- ---- a mark, which goes out by the numbers of the saved form: 1 above and 2 at most, at a step, any other number open
 
 abbrev pub mark_in : ℕ → ℕ → Mark
 mark_in zero step = Open
 mark_in (suc zero) step = Above step
 mark_in (suc (suc zero)) step = AtMost step
 mark_in (suc (suc (suc m))) step = Open
-
-abbrev pub mark_case : Mark → ℕ
-mark_case Open = 0
-mark_case (Above t) = 1
-mark_case (AtMost t) = 2
-
-abbrev pub mark_step : Mark → ℕ
-mark_step Open = 0
-mark_step (Above t) = t
-mark_step (AtMost t) = t
 
 -- ---- an answer: 0 open, 1 decided, 2 crossed, 3 wide, 4 spent, any other number refused, and the number of the bucket or of the refusal
 
@@ -69,7 +60,7 @@ record_in r = record {
 
 abbrev pub record_out : Threshold → HostRecord
 record_out t = record {
-  mark = mark_case t.mark;
+  mark = mark_code t.mark;
   step = mark_step t.mark;
   lower = t.walked.lower;
   upper = t.walked.upper;

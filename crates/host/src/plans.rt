@@ -1,13 +1,14 @@
 // A plan as it comes in and as it goes out.
 
 ghost use Rattle.std.specs.Prelude.{◌≡◌};
-ghost use Rattle.stored_plan.specs.Reading.{no_plan, read_as};
+ghost use Rattle.stored_plan.specs.Reading.{read_as};
 ghost use Rattle.host.specs.Plans.{plan_in, plan_out};
 
 use crate::HostPlan;
 use crate::writings::refusal_of;
-use plan::{BUCKET_LIMIT, COUNT_LIMIT, POINT_LIMIT, Plan};
+use plan::Plan;
 use refusals::Refusal;
+use stored_plan::NO_PLAN;
 
 impl From<HostPlan> for Plan {
     ghost from_gives = { λ p r. r ≡ plan_in p };
@@ -35,30 +36,11 @@ impl From<HostPlan> for Plan {
     }
 }
 
-// What goes out in a refused plan's place: zeros in every number.
-fn no_plan() -> Plan
-    ensures { result ≡ no_plan }
-{
-    Plan {
-        count: 0,
-        buckets: 0,
-        delay: 0,
-        horizon: 0,
-        points: 0,
-        thresholds: [0; COUNT_LIMIT],
-        allowances: [0; COUNT_LIMIT],
-        left: [0; BUCKET_LIMIT],
-        right: [0; BUCKET_LIMIT],
-        steps: [0; POINT_LIMIT],
-        shares: [0; POINT_LIMIT],
-    }
-}
-
 impl From<Result<Plan, Refusal>> for HostPlan {
     ghost from_gives = { λ r h. h ≡ plan_out (read_as r).refusal (read_as r).plan };
 
     fn from(r: Result<Plan, Refusal>) -> HostPlan {
-        let plan = r.unwrap_or(no_plan());
+        let plan = r.unwrap_or(NO_PLAN);
         let thresholds = plan.thresholds;
         let allowances = plan.allowances;
         let left = plan.left;

@@ -2,7 +2,7 @@
 
 ghost use Rattle.std.specs.Prelude.{◌≡◌, map};
 ghost use Rattle.saved_test.specs.Reading.{loaded_as};
-ghost use Rattle.host.specs.States.{mark_in, mark_case, mark_step, answer_case, answer_number, record_in, record_out, state_in, drawn_out, loaded_out, report_out};
+ghost use Rattle.host.specs.States.{mark_in, answer_case, answer_number, record_in, record_out, state_in, drawn_out, loaded_out, report_out};
 
 use crate::writings::refusal_of;
 use crate::{HostRecord, HostReport, HostState, HostTest};
@@ -10,6 +10,7 @@ use bucket_test::starting::{no_walked, ten_of};
 use bucket_test::{Answer, Drawn, Report, State, Threshold};
 use plan::COUNT_LIMIT;
 use refusals::Refusal;
+use saved_test::marks::code_of;
 use walk::{Mark, Walked};
 
 // C has a mark, and an answer, as two numbers: its case, and what the case holds.
@@ -20,16 +21,6 @@ fn mark_in(mark: u32, step: u32) -> Mark
         1 => Mark::Above(step),
         2 => Mark::AtMost(step),
         _ => Mark::Open,
-    }
-}
-
-fn mark_out(m: Mark) -> (u32, u32)
-    ensures { (result.0 ≡ mark_case m) × (result.1 ≡ mark_step m) }
-{
-    match m {
-        Mark::Open => (0, 0),
-        Mark::Above(step) => (1, step),
-        Mark::AtMost(step) => (2, step),
     }
 }
 
@@ -68,7 +59,7 @@ impl From<Threshold> for HostRecord {
 
     fn from(t: Threshold) -> HostRecord {
         let w = t.walked;
-        let (mark, step) = mark_out(t.mark);
+        let (mark, step) = code_of(t.mark);
         HostRecord {
             mark,
             step,

@@ -14,4 +14,5 @@ out (Ok p) = refl
 out (Err r) = refl
 
 pub returns : goal.returns
-returns c = rw (c.refusal_of.ensures, c.unwrap_or-plan.ensures, c.no_plan.ensures) (out c.args.r)
+unfolding no_plan
+returns c = rw (c.refusal_of.ensures, c.unwrap_or-plan.ensures) (out c.args.r)
