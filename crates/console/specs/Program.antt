@@ -1,6 +1,8 @@
 -- The program between what is read and what is printed (rules 9). Which draws the system hands over no contract can say: the claims are of
 -- some text.
 use Rattle.std.specs.Prelude.{◌≡◌, Bool, true, false, List, ◌++◌, ℕ, zero, suc, ◌*◌, length, take, drop}
+use Rattle.std.specs.declared.ops.ControlFlow.{ControlFlow}
+use Rattle.std.specs.declared.ops.ControlFlow.TheVariants.{Continue, Break}
 use Rattle.walk.specs.Numbers.{le?}
 use Rattle.walk.specs.Units.{wide}
 use Rattle.bucket_test.specs.Draw.{Outcome, drawn_of, outcome_of, begun}
@@ -15,6 +17,15 @@ use Rattle.console.specs.Run.{ran}
 pub record ComesTo (p : Plan) (o : Outcome) (d : Drawn) (words : List ℕ) : Type 0 where
   pub text : List ℕ
   pub outcome : outcome_of d words ≡ ran p o (draws_of text)
+
+-- where a read left the test, and whether another follows
+abbrev pub reached : ControlFlow Drawn Drawn → Drawn
+reached (Continue d) = d
+reached (Break d) = d
+
+abbrev pub goes_on : ControlFlow Drawn Drawn → Bool
+goes_on (Continue d) = true
+goes_on (Break d) = false
 
 -- what is printed, and the lent words then
 pub record Printed : Type 0 where

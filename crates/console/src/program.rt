@@ -7,7 +7,7 @@ ghost use Rattle.walk.specs.Numbers.{lt?};
 ghost use Rattle.bucket_test.specs.Draw.{outcome_of};
 ghost use Rattle.console.specs.Input.{draws_of};
 ghost use Rattle.console.specs.Run.{answer_open, ran};
-ghost use Rattle.console.specs.Program.{ComesTo, Prints, played, served};
+ghost use Rattle.console.specs.Program.{ComesTo, reached, goes_on, Prints, played, served};
 
 use crate::feeding::feed;
 use crate::line::{LINE_BUFFER, last_line, refused_line};
@@ -19,33 +19,34 @@ use plan::Plan;
 use refusals::Refusal;
 use std::fs;
 use std::io::Read;
+use std::ops::ControlFlow;
 use std::rt::Files;
 use stored_plan::FORM_LIMIT;
 use stored_plan::reading::read_plan;
 use walk::WIDE;
 
-// Where a test stands, and whether it takes more.
-#[derive(Clone, Copy)]
-struct Fed {
-    more: bool,
-    drawn: Drawn,
-}
-
-// The characters that one read gave. More is taken after an `open` answer, and not where there were none: the input has ended.
-fn take_chunk(p: &Plan, d: Drawn, words: &mut [u64], chunk: &mut [u8]) -> Fed
-    ensures { (outcome_of result.drawn words.new ≡ ran p.now (outcome_of d words.old) (draws_of chunk.old))
-        × (result.more ≡ lt? 0 (length chunk.old) && answer_open result.drawn.answer) }
+// The characters that one read gave, and whether to read on: after an `open` answer, and not where there were none, since the input has ended.
+fn take_chunk(p: &Plan, d: Drawn, words: &mut [u64], chunk: &mut [u8]) -> ControlFlow<Drawn, Drawn>
+    ensures { (outcome_of (reached result) words.new ≡ ran p.now (outcome_of d words.old) (draws_of chunk.old))
+        × (goes_on result ≡ lt? 0 (length chunk.old) && answer_open (reached result).answer) }
 {
     let some = chunk.len() > 0;
     let drawn = feed(p, d, words, chunk);
-    let answer = drawn.answer;
-    let more = some && answer_open(answer);
-    Fed { more, drawn }
+    if some && answer_open(drawn.answer) {
+        ControlFlow::Continue(drawn)
+    } else {
+        ControlFlow::Break(drawn)
+    }
 }
 
 // One read, and the characters that it gave.
-fn take_some<R: Read>(p: &Plan, d: Drawn, input: &mut R, words: &mut [u64]) -> Fed
-    ensures { (t : ComesTo p.now (outcome_of d words.old) result.drawn words.new)
+fn take_some<R: Read>(
+    p: &Plan,
+    d: Drawn,
+    input: &mut R,
+    words: &mut [u64],
+) -> ControlFlow<Drawn, Drawn>
+    ensures { (t : ComesTo p.now (outcome_of d words.old) (reached result) words.new)
         × Consumes (R.remaining input.old) (R.remaining input.new) t.text }
 {
     let mut chunk = [0u8; 4096];
@@ -53,22 +54,20 @@ fn take_some<R: Read>(p: &Plan, d: Drawn, input: &mut R, words: &mut [u64]) -> F
     take_chunk(p, d, words, &mut chunk[..n])
 }
 
-// Reads up to an answer that is not `open`, or the end of input. A proved loop has to end: it counts its turns down, from a number that no
-// run uses up.
+// Reads up to an answer that is not `open`, or the end of input. A proved loop has to end: it has more turns than any run uses up.
 fn take_all<R: Read>(p: &Plan, d: Drawn, input: &mut R, words: &mut [u64]) -> Drawn
     ensures { (t : ComesTo p.now (outcome_of d words.old) result words.new)
         × Consumes (R.remaining input.old) (R.remaining input.new) t.text }
 {
-    let first = d.answer;
     let mut drawn = d;
-    let mut more = answer_open(first);
-    let mut turns = u64::MAX;
-    while turns > 0 && more {
-        let fed = take_some(p, drawn, input, words);
-        let next = fed.drawn;
-        drawn = next;
-        more = fed.more;
-        turns -= 1;
+    if !answer_open(drawn.answer) {
+        return drawn;
+    }
+    for _turn in 0..u64::MAX {
+        match take_some(p, drawn, input, words) {
+            ControlFlow::Continue(next) => drawn = next,
+            ControlFlow::Break(last) => return last,
+        }
     }
     drawn
 }
