@@ -7,7 +7,7 @@ ghost use Rattle.counting.specs.Run.{refused, begun, drawn};
 use crate::{Answer, Drawn, Run};
 use refusals::Refusal;
 
-// A refusal by its number, with a run.
+// A refusal with a run.
 fn refused(refusal: Refusal, run: Run) -> Drawn
     ensures { result ≡ refused (number_of refusal) run }
 {

@@ -8,7 +8,7 @@ mod judging;
 pub const SIZE_LIMIT: u32 = 50000;
 
 // A run: its stop count h, its size n, the draws taken, l, and the ones among them, g.
-#[derive(Clone, Copy, Debug, Default, PartialEq, Eq)]
+#[derive(Clone, Copy, Default)]
 pub struct Run {
     pub stop: u32,
     pub size: u32,
@@ -17,7 +17,7 @@ pub struct Run {
 }
 
 // What a beginning or a draw answers: open; the p-value that ended the run, numerator and denominator, not reduced; a refusal by its number.
-#[derive(Clone, Copy, Debug, PartialEq, Eq)]
+#[derive(Clone, Copy)]
 pub enum Answer {
     Open,
     Ended(u32, u32),
@@ -25,7 +25,7 @@ pub enum Answer {
 }
 
 // An answer with the run that a call hands back.
-#[derive(Clone, Copy, Debug, PartialEq, Eq)]
+#[derive(Clone, Copy)]
 pub struct Drawn {
     pub answer: Answer,
     pub run: Run,

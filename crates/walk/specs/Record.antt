@@ -10,11 +10,11 @@ unfoldable pub first_above : ℤ → ℕ
 first_above (pos b) = suc b
 first_above (negsuc b) = 0
 
--- a lower boundary from -1 on, of a walk of at most 50,000 draws
+-- a lower boundary from -1 on, of a walk of at most 50,000 draws; for inner contracts
 abbrev pub Counted : ℤ → Type 0
 Counted z = (z ≡ below (first_above z)) × (first_above z ≤ suc horizon_limit)
 
--- .. and of any two boundaries: the first live count is at most the upper one
+-- .. and of any two boundaries: the lower one is -1 or more, and the first live count is at most the upper one; for inner contracts
 abbrev pub Ordered : Walked → Type 0
 Ordered w = (w.lower ≡ below (first_above w.lower)) × (first_above w.lower ≤ w.upper)
 

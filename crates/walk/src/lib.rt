@@ -62,7 +62,7 @@ impl Walked {
     pub(crate) fn apart(&self) -> i64
         ensures { result ≡ pos self.now.upper -ℤ self.now.lower }
     {
-        self.upper as i64 - self.lower as i64
+        i64::from(self.upper) - i64::from(self.lower)
     }
 
     // How many counts are live.

@@ -25,7 +25,7 @@ const TWICE_LIMIT: u64 = 2 * MASS_LIMIT;
 pub fn rounded_fits(w: Walked, n: u32) -> bool
     ensures { result ≡ rounded_fits n w }
 {
-    w.rounded as u64 <= ROUNDED_A_DRAW * n as u64
+    u64::from(w.rounded) <= ROUNDED_A_DRAW * u64::from(n)
 }
 
 // What refusal 11 asks of the boundaries and the spent masses, in its order.
@@ -34,10 +34,10 @@ pub fn boundaries_sound(w: Walked, n: u32, ones: u32, e: u64) -> bool
 {
     let apart = w.apart();
     w.lower >= -1
-        && w.upper as u64 <= n as u64 + 1
+        && u64::from(w.upper) <= u64::from(n) + 1
         && apart >= 2
         && apart <= WIDE_APART
-        && (w.lower as i64) < ones as i64
+        && i64::from(w.lower) < i64::from(ones)
         && ones < w.upper
         && w.over <= e
         && w.under <= e

@@ -18,7 +18,7 @@ pub fn advance(part: &mut [u64], w: Walked, a: u32, e: u64) -> Walked
         × (row_of result part.new ≡ step_row a e (row_of w part.old)) }
 {
     let n = w.live();
-    let more = spread(part, n, a as u64);
+    let more = spread(part, n, u64::from(a));
     let cut = trim(part, n + 1, w.over, w.under, e);
     Walked {
         lower: w.raised(cut.lo),

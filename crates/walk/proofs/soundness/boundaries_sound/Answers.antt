@@ -5,7 +5,7 @@ use Rattle.std.proofs.lemmas.Int.{ints}
 use Rattle.walk.specs.Numbers.{le?, lt?}
 use Rattle.walk.specs.Units.{wide}
 use Rattle.walk.specs.Soundness.{boundaries_sound}
-use Rattle.walk.proofs.soundness.boundaries_sound.Goals.{Joined-ones-w, then-w-geminus1, else-w-geminus1, then-w-n, else-w-n, then-apart-ge2, else-apart-ge2, then-apart-le-WIDE_APART, else-apart-le-WIDE_APART, then-w-ones, else-w-ones, then-ones-w, else-ones-w}
+use Rattle.walk.proofs.soundness.boundaries_sound.Goals.{Joined-ones-w, then-w-geminus1, else-w-geminus1, then-from, else-from, then-apart-ge2, else-apart-ge2, then-apart-le-WIDE_APART, else-apart-le-WIDE_APART, then-from-2, else-from-2, then-ones-w, else-ones-w}
 use Rattle.walk.proofs.soundness.boundaries_sound.Goals as goal
 
 module _ (c : Joined-ones-w) where
@@ -13,20 +13,20 @@ module _ (c : Joined-ones-w) where
   unfolding le?
   to_top = elim c.if-w-geminus1.branch [ then-w-geminus1 w ↦ grind (arith, ints) | else-w-geminus1 w ↦ grind (arith, ints) ]
 
-  two_apart : c.if-w-n.value ≡ c.if-w-geminus1.value && int_le (pos 2) (pos c.args.w.upper -ℤ c.args.w.lower)
-  two_apart = elim c.if-w-n.branch [ then-w-n w ↦ grind (arith, ints) | else-w-n w ↦ grind (arith, ints) ]
+  two_apart : c.if-from.value ≡ c.if-w-geminus1.value && int_le (pos 2) (pos c.args.w.upper -ℤ c.args.w.lower)
+  two_apart = elim c.if-from.branch [ then-from w ↦ grind (arith, ints) | else-from w ↦ grind (arith, ints) ]
 
-  narrow : c.if-apart-ge2.value ≡ c.if-w-n.value && int_le (pos c.args.w.upper -ℤ c.args.w.lower) (pos 770)
+  narrow : c.if-apart-ge2.value ≡ c.if-from.value && int_le (pos c.args.w.upper -ℤ c.args.w.lower) (pos 770)
   narrow = elim c.if-apart-ge2.branch [ then-apart-ge2 w ↦ grind (arith, ints) | else-apart-ge2 w ↦ grind (arith, ints) ]
 
   past_lower : c.if-apart-le-WIDE_APART.value ≡ c.if-apart-ge2.value && int_lt c.args.w.lower (pos c.args.ones)
   past_lower = elim c.if-apart-le-WIDE_APART.branch [ then-apart-le-WIDE_APART w ↦ grind (arith, ints) | else-apart-le-WIDE_APART w ↦ grind (arith, ints) ]
 
-  before_upper : c.if-w-ones.value ≡ c.if-apart-le-WIDE_APART.value && lt? c.args.ones c.args.w.upper
+  before_upper : c.if-from-2.value ≡ c.if-apart-le-WIDE_APART.value && lt? c.args.ones c.args.w.upper
   unfolding le?
-  before_upper = elim c.if-w-ones.branch [ then-w-ones w ↦ grind (arith, ints) | else-w-ones w ↦ grind (arith, ints) ]
+  before_upper = elim c.if-from-2.branch [ then-from-2 w ↦ grind (arith, ints) | else-from-2 w ↦ grind (arith, ints) ]
 
-  over_fits : c.if-ones-w.value ≡ c.if-w-ones.value && le? c.args.w.over c.args.e
+  over_fits : c.if-ones-w.value ≡ c.if-from-2.value && le? c.args.w.over c.args.e
   unfolding le?
   over_fits = elim c.if-ones-w.branch [ then-ones-w w ↦ grind (arith, ints) | else-ones-w w ↦ grind (arith, ints) ]
 

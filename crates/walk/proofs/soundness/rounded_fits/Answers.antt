@@ -7,4 +7,4 @@ use Rattle.walk.proofs.soundness.rounded_fits.Goals as goal
 
 pub returns : goal.returns
 unfolding rounded_fits le? wide
-returns c = refl
+returns c = rw (c.from.ensures, c.from-2.ensures) refl

@@ -13,18 +13,18 @@ pub spread-more-requires : goal.spread-more-requires
 unfolding row_of
 spread-more-requires c =
     let s = c.requires in
-    (omega (arith, s.room), omega (arith, s.narrow, order s), s.threshold, rw c.live-n.ensures s.small)
+    (omega (arith, s.room), omega (arith, s.narrow, order s), rw c.from.ensures s.threshold, rw c.live-n.ensures s.small)
 
 pub trim-cut-requires : goal.trim-cut-requires
 unfolding row_of
 trim-cut-requires c =
     let s = c.requires in
     let spread = c.spread-more in
-    omega (arith, spread.auto.part, s.room, s.narrow, order s, s.sound, more s c.live-n.ensures spread.ensures.1)
+    omega (arith, spread.auto.part, s.room, s.narrow, order s, s.sound, more s c.live-n.ensures (rw c.from.ensures at spread.ensures).1)
 
 -- after `trim`: both places are among the words
 fits : (c : After-trim-cut) → (c.trim-cut.result.hi ≤ wide) × (c.trim-cut.result.lo ≤ wide)
-fits c = places_fit c.requires c.live-n.ensures c.spread-more.ensures.1 c.trim-cut.ensures
+fits c = places_fit c.requires c.live-n.ensures (rw c.from.ensures at c.spread-more.ensures).1 c.trim-cut.ensures
 
 pub raised-requires : goal.raised-requires
 raised-requires c = (counted c.requires, (fits (goal.at.raised-requires c).After-trim-cut).1)
@@ -44,11 +44,11 @@ overflow_add-result c =
 pub overflow_add-result-2 : goal.overflow_add-result-2
 unfolding wide horizon_limit
 overflow_add-result-2 c =
-    let spread = c.spread-more in
-    omega (arith, spread.ensures.0, few_rounded c.requires c.live-n.ensures spread.ensures.1, c.requires.rounded_holds)
+    let spread = rw c.from.ensures at c.spread-more.ensures in
+    omega (arith, spread.0, few_rounded c.requires c.live-n.ensures spread.1, c.requires.rounded_holds)
 
 pub returns : goal.returns
 returns c =
     let s = c.requires in
-    let spread = c.spread-more in
-    stepped s c.live-n.ensures spread.ensures.1 c.trim-cut.ensures c.raised.ensures c.first.ensures spread.ensures.0
+    let spread = rw c.from.ensures at c.spread-more.ensures in
+    stepped s c.live-n.ensures spread.1 c.trim-cut.ensures c.raised.ensures c.first.ensures spread.0
