@@ -34,7 +34,7 @@ fn words_fit(count: u32, len: usize) -> bool
     len == WIDE * count as usize
 }
 
-// Any plan and any words may be handed in.
+// Whether a test may begin, by plan and 8 in this order (rules 8.2). Any plan and any words may be handed in.
 fn judge_beginning(p: &Plan, words: &[u64]) -> Result<(), Refusal>
     ensures { refusal_in result ≡ begin_refusal p.now words.now }
 {

@@ -9,6 +9,7 @@ ghost use Rattle.bucket_test.specs.Draw.{state_sound};
 
 use crate::{State, Threshold};
 use plan::Plan;
+use plan::rules::within;
 use walk::soundness::{boundaries_sound, rounded_fits, words_sound};
 use walk::spending::spending_at;
 use walk::{Mark, WIDE};
@@ -20,7 +21,7 @@ pub fn numbers_sound(t: Threshold, e: u64, n: u32, ones: u32) -> bool
     rounded_fits(t.walked, n)
         && match t.mark {
             Mark::Open => boundaries_sound(t.walked, n, ones, e),
-            Mark::Above(u) | Mark::AtMost(u) => 1 <= u && u <= n,
+            Mark::Above(u) | Mark::AtMost(u) => within(u, 1, n),
         }
 }
 

@@ -1,6 +1,5 @@
--- A plan by its numbers and tables, a bucket by its ends, and the portion of each allowance that may be spent, for inner contracts; no entry's
--- contract cites this file.
-use Rattle.std.specs.Prelude.{Bool, true, false, not, ◌&&◌, List, ℕ, ◌+◌}
+-- A bucket by its ends, and the portion of each allowance that may be spent, for inner contracts; no entry's contract cites this file.
+use Rattle.std.specs.Prelude.{Bool, true, false, not, ◌&&◌, ℕ, ◌+◌}
 use Rattle.walk.specs.Numbers.{lt?}
 use Rattle.walk.specs.Units.{million}
 use Rattle.walk.specs.declared.Portion.{Portion}
@@ -8,21 +7,6 @@ use Rattle.plan.specs.Places.{eq?}
 use Rattle.plan.specs.Points.{share_by}
 use Rattle.plan.specs.Plan.{step_at, share_at, permitted}
 use Rattle.plan.specs.declared.Plan.{Plan}
-
-abbrev pub plan_with : ℕ → ℕ → ℕ → ℕ → ℕ → List ℕ → List ℕ → List ℕ → List ℕ → List ℕ → List ℕ → Plan
-plan_with count buckets delay horizon points thresholds allowances left right steps shares = record {
-  count = count;
-  buckets = buckets;
-  delay = delay;
-  horizon = horizon;
-  points = points;
-  thresholds = thresholds;
-  allowances = allowances;
-  left = left;
-  right = right;
-  steps = steps;
-  shares = shares;
-}
 
 -- `bucket_fits` of a bucket with these ends
 abbrev pub ends_fit : Plan → ℕ → ℕ → Bool

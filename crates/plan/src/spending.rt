@@ -30,15 +30,15 @@ impl Plan {
         ensures { result ≡ portion_of self.now n }
     {
         if self.points == 0 {
-            let draws = n as u64;
+            let draws = u64::from(n);
             return Portion {
                 numerator: draws,
-                denominator: draws + self.delay as u64,
+                denominator: draws + u64::from(self.delay),
             };
         }
         Portion {
-            numerator: self.share_by(n) as u64,
-            denominator: MILLION as u64,
+            numerator: u64::from(self.share_by(n)),
+            denominator: u64::from(MILLION),
         }
     }
 }
