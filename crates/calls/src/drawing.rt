@@ -16,9 +16,9 @@ use bucket_test::answering::first_that_fits;
 use little::numbers::read_u32;
 use plan::Plan;
 use refusals::{Refusal, ensure};
-use saved_test::form::{DRAWS_FIELD, HEADER_SIZE, ONES_FIELD, RECORD_SIZE};
+use saved_test::form::{DRAWS_FIELD, ONES_FIELD};
 use saved_test::marks::live_count;
-use saved_test::reading::{form_fits, record_from, state_sound_in};
+use saved_test::reading::{form_fits, record_in, state_sound_in};
 use saved_test::writing::write_header;
 use walk::WIDE;
 
@@ -35,7 +35,8 @@ pub(crate) fn judge_draw(p: &Plan, saved: &[u8], draw: u32) -> Result<(), Refusa
     ensure(form_fits(p, saved), Refusal::SavedForm)?;
     ensure(draw <= 1, Refusal::Draw)?;
     ensure(!has_ended(p, saved), Refusal::Ended)?;
-    ensure(state_sound_in(p, saved), Refusal::Spoiled)
+    let portion = p.portion_at(read_u32(saved, DRAWS_FIELD));
+    ensure(state_sound_in(p, portion, saved), Refusal::Spoiled)
 }
 
 // The draw, with a part to walk in.
@@ -85,7 +86,7 @@ fn most_masses(bytes: &[u8], count: usize) -> usize
     let mut most: usize = 0;
     // By places, since a record is read at its offset.
     for i in 0..count {
-        most = most.max(live_count(record_from(bytes, HEADER_SIZE + RECORD_SIZE * i)));
+        most = most.max(live_count(record_in(bytes, i)));
     }
     most
 }

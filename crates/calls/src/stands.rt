@@ -17,8 +17,8 @@ use bucket_test::answering::{first_that_fits, narrowed, wide_open};
 use bucket_test::drawing::is_ending;
 use little::numbers::read_u32;
 use plan::Plan;
-use saved_test::form::{DRAWS_FIELD, HEADER_SIZE, RECORD_SIZE};
-use saved_test::reading::record_from;
+use saved_test::form::DRAWS_FIELD;
+use saved_test::reading::record_in;
 use walk::MILLION;
 
 impl Standing {
@@ -59,7 +59,7 @@ fn standing_in(p: &Plan, bytes: &[u8]) -> Standing
     let mut s = Standing::unseen();
     // By places, since a record is read at its offset.
     for i in 0..count {
-        let t = record_from(bytes, HEADER_SIZE + RECORD_SIZE * i);
+        let t = record_in(bytes, i);
         s = s.seen(t, p.thresholds[i]);
     }
     s

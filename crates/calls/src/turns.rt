@@ -13,7 +13,7 @@ use bucket_test::turning::turn_front;
 use plan::Plan;
 use saved_test::form::{HEADER_SIZE, MASS_SIZE, RECORD_SIZE};
 use saved_test::marks::live_count;
-use saved_test::reading::{front_in, record_from};
+use saved_test::reading::{front_in, record_in};
 use saved_test::writing::{write_part, write_record};
 use walk::spending::spending_at;
 
@@ -49,7 +49,7 @@ impl Turning<'_> {
         let mut masses: usize = 0;
         // By places, since a record is read at its offset.
         for i in 0..count {
-            let t = record_from(self.saved, HEADER_SIZE + RECORD_SIZE * i);
+            let t = record_in(self.saved, i);
             let next = self.turn_at(i, t, at, part);
             masses += live_count(next);
             at += MASS_SIZE * live_count(t);
@@ -85,7 +85,7 @@ impl Turning<'_> {
         let mut masses: usize = 0;
         let mut standing = Standing::unseen();
         for i in 0..count {
-            let t = record_from(self.saved, HEADER_SIZE + RECORD_SIZE * i);
+            let t = record_in(self.saved, i);
             let next = self.turn_at(i, t, at, part);
             let live = live_count(next);
             let to = front + MASS_SIZE * masses;

@@ -13,6 +13,7 @@ use Rattle.plan.proofs.AcceptedLaws.{accepted}
 use Rattle.plan.proofs.SpendingLaws.{portion_fits}
 use Rattle.walk.specs.Record.{first_above, row_of}
 use Rattle.walk.specs.Soundness.{rounded_fits, words_sound}
+use Rattle.walk.specs.declared.Portion.{Portion}
 use Rattle.walk.specs.declared.Walked.{Walked}
 use Rattle.walk.proofs.SoundnessLaws.{boundaries_say}
 use Rattle.walk.proofs.Tests.{and_true, le?_complete, le?_fails}
@@ -38,6 +39,7 @@ use Rattle.little.proofs.FilledLaws.{filled-over, filled-take}
 use Rattle.plan.specs.declared.Plan.{Plan}
 use Rattle.bucket_test.specs.declared.State.{State}
 use Rattle.plan.specs.Plan.{count_limit, spending_of, plan_refusal}
+use Rattle.plan.specs.Tables.{portion_of}
 use Rattle.bucket_test.specs.Turn.{record_at, numbers_sound, record_sound, record_sound_at}
 use Rattle.bucket_test.specs.Draw.{state_sound, no_state}
 use Rattle.saved_test.specs.Form.{header_size, record_size, draws_field, ones_field, mass_size, record_offset, form_size, counts_between, live_count, masses_to}
@@ -171,17 +173,21 @@ module _ (p : Plan) (bytes : List ℕ) (form : form_fits p bytes ≡ true) where
     sized = ((form_says p bytes).0 form).sized;
   }
 
-  pub judgeable : (n : ℕ) → plan_refusal p ≡ 0 → (p.horizon ≤ horizon_limit) × Judgeable p n bytes
+  pub judgeable : (n : ℕ) → plan_refusal p ≡ 0 → (p.horizon ≤ horizon_limit) × Judgeable p (portion_of p n) n bytes
   judgeable n e = let ok = (accepted p).0 e in (
     ok.horizon_range.1,
     record {
       few = ok.count_range.1;
-      few_points = ok.points_sound.few;
       allowed = λ i l. (ok.allowance_range i l).1;
       spendable = portion_fits p ok n;
       held = form_held;
     },
   )
+
+-- the portion that is computed from the n that was read
+pub portion_read : (p : Plan) (bytes : List ℕ) (n : ℕ) (portion : Portion) → n ≡ field 4 draws_field bytes → portion ≡ portion_of p n
+    → portion_of p (field 4 draws_field bytes) ≡ portion
+portion_read p bytes n portion n_is is = rw (← n_is) (sym is)
 
 -- records have a header before them
 pub held_long : (count : ℕ) (bytes : List ℕ) → RecordsAndMasses count bytes → 24 ≤ length bytes

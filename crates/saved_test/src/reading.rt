@@ -31,7 +31,7 @@ use walk::row::clear_from;
 use walk::soundness::{masses_sound, weigh_next, weigh_none};
 use walk::spending::spending_at;
 use walk::starting::start_walked;
-use walk::{Mark, WIDE, Walked, Weighed};
+use walk::{Mark, Portion, WIDE, Walked, Weighed};
 
 // The record at an offset. Its mark comes first: its cases part the code, and the compiler makes one load of a field only where they do not.
 pub fn record_from(bytes: &[u8], at: usize) -> Threshold
@@ -57,7 +57,7 @@ pub fn record_from(bytes: &[u8], at: usize) -> Threshold
 }
 
 // The record at place i.
-fn record_in(bytes: &[u8], i: usize) -> Threshold
+pub fn record_in(bytes: &[u8], i: usize) -> Threshold
     requires { header_size + record_size * i + record_size ≤ length bytes.now }
     ensures { result ≡ record_in bytes.now i }
 {
@@ -222,13 +222,12 @@ fn record_sound_in(bytes: &[u8], at: usize, t: Threshold, e: u64, n: u32, ones: 
     }
 }
 
-// Whether each of the thresholds that the bytes hold passes refusal 11 after n draws with so many ones.
-fn parts_sound(p: &Plan, bytes: &[u8], n: u32, ones: u32) -> bool
-    requires { (n ≤ horizon_limit) × Judgeable p.now n bytes.now }
-    ensures { result ≡ all_to p.now.count (part_passes p.now bytes.now n ones) }
+// Whether each of the thresholds that the bytes hold passes refusal 11 after n draws with so many ones, with such a portion of each allowance to spend.
+fn parts_sound(p: &Plan, portion: Portion, bytes: &[u8], n: u32, ones: u32) -> bool
+    requires { (n ≤ horizon_limit) × Judgeable p.now portion n bytes.now }
+    ensures { portion_of p.now n ≡ portion → result ≡ all_to p.now.count (part_passes p.now bytes.now n ones) }
 {
     let count = p.count as usize;
-    let portion = p.portion_at(n);
     let mut at = HEADER_SIZE + RECORD_SIZE * count;
     for (i, &allowance) in p.allowances[..count].iter().enumerate() {
         let t = record_in(bytes, i);
@@ -241,14 +240,16 @@ fn parts_sound(p: &Plan, bytes: &[u8], n: u32, ones: u32) -> bool
     true
 }
 
-// Refusal 11 of the test that the bytes hold, under a plan with such numbers, as an accepted one, and where the form fits.
-pub fn state_sound_in(p: &Plan, bytes: &[u8]) -> bool
-    requires { (p.now.horizon ≤ horizon_limit) × Judgeable p.now (field 4 draws_field bytes.now) bytes.now }
-    ensures { result ≡ state_sound p.now (state_in p.now bytes.now) (words_in p.now bytes.now) }
+// Refusal 11 of the test that the bytes hold, under a plan whose numbers are in their ranges, as those of an accepted one are, and where the form
+// fits, with such a portion of each allowance to spend.
+pub fn state_sound_in(p: &Plan, portion: Portion, bytes: &[u8]) -> bool
+    requires { (p.now.horizon ≤ horizon_limit) × Judgeable p.now portion (field 4 draws_field bytes.now) bytes.now }
+    ensures { portion_of p.now (field 4 draws_field bytes.now) ≡ portion
+        → result ≡ state_sound p.now (state_in p.now bytes.now) (words_in p.now bytes.now) }
 {
     let n = read_u32(bytes, DRAWS_FIELD);
     let ones = read_u32(bytes, ONES_FIELD);
-    n <= p.horizon && ones <= n && parts_sound(p, bytes, n, ones)
+    n <= p.horizon && ones <= n && parts_sound(p, portion, bytes, n, ones)
 }
 
 // The test that any bytes hold under any plan, into any lent words, or the refusal: plan, 8, 15, 11. On a refusal no word changes.
@@ -258,7 +259,8 @@ pub fn read_test(p: &Plan, bytes: &[u8], words: &mut [u64]) -> Result<State, Ref
     p.judge()?;
     ensure(words.len() == WIDE * p.count as usize, Refusal::Words)?;
     ensure(form_fits(p, bytes), Refusal::SavedForm)?;
-    ensure(state_sound_in(p, bytes), Refusal::Spoiled)?;
+    let portion = p.portion_at(read_u32(bytes, DRAWS_FIELD));
+    ensure(state_sound_in(p, portion, bytes), Refusal::Spoiled)?;
     let state = state_in(p, bytes);
     parts_in(p, bytes, words);
     Ok(state)

@@ -28,18 +28,18 @@ pub fn write_record(bytes: &mut [u8], at: usize, t: Threshold)
 {
     let w = t.walked;
     let (code, step) = code_of(t.mark);
-    write_two(bytes, at, 4, code, 4, step as u64);
+    write_two(bytes, at, 4, code, 4, u64::from(step));
     write_two(
         bytes,
         at + LOWER_FIELD,
         4,
         w.lower.cast_unsigned(),
         4,
-        w.upper as u64,
+        u64::from(w.upper),
     );
     write_le(bytes, at + OVER_FIELD, 8, w.over);
     write_le(bytes, at + UNDER_FIELD, 8, w.under);
-    write_le(bytes, at + ROUNDED_FIELD, 4, w.rounded as u64);
+    write_le(bytes, at + ROUNDED_FIELD, 4, u64::from(w.rounded));
 }
 
 // So many records behind the header.
@@ -96,7 +96,7 @@ pub fn write_header(bytes: &mut [u8], count: usize, masses: usize, n: u32, ones:
         2,
         offset as u64,
     );
-    write_two(bytes, SIZE_FIELD, 4, size as u32, 4, n as u64);
+    write_two(bytes, SIZE_FIELD, 4, size as u32, 4, u64::from(n));
     write_two(bytes, ONES_FIELD, 4, ones, 2, RECORD_SIZE as u64);
     write_le(bytes, MASS_SIZE_FIELD, 2, MASS_SIZE as u64);
 }

@@ -1,13 +1,14 @@
 -- Past each rule that is kept, the refusal is the first of those left to judge.
 use mathlib.Core.Path.{◌≡◌, refl, sym, ap, ◌∙◌}
 use mathlib.Core.Bool.{true, not}
+use native.Mathlib.Omega.{arith}
 use Rattle.walk.specs.Numbers.{le?}
 use Rattle.refusals.proofs.RefusalLaws.{kept, broken, handed_on}
 use Rattle.plan.proofs.PlaceLaws.{first_one}
 use Rattle.plan.proofs.AcceptedLaws.{accepted}
 use Rattle.bucket_test.specs.Answers.{answer_of, is_ending}
 use Rattle.saved_test.specs.Reading.{state_in, form_fits}
-use Rattle.saved_test.proofs.ReadingLaws.{judgeable}
+use Rattle.saved_test.proofs.ReadingLaws.{form_long, judgeable, portion_read}
 use Rattle.calls.proofs.CallLaws.{past_form}
 use Rattle.calls.proofs.drawing.judge_draw.Goals.{After-form_fits, After-has_ended, In_ok-ensure, In_ok-ensure-2, In_ok-ensure-3}
 use Rattle.calls.proofs.drawing.judge_draw.Goals as goal
@@ -27,8 +28,16 @@ bit c = kept {b = le? c.args.draw 1} refl _ c.in_ok-ensure-2.ensures
 going : (c : In_ok-ensure-3) → let a = c.args in not (is_ending (answer_of a.p.now (state_in a.p.now a.saved.now))) ≡ true
 going c = kept (ap not c.has_ended.ensures) _ c.in_ok-ensure-3.ensures
 
+pub read_u32-requires : goal.read_u32-requires
+read_u32-requires c = omega (arith, form_long _ _ (form (goal.at.read_u32-requires c).In_ok-ensure))
+
+pub portion_at-portion-requires : goal.portion_at-portion-requires
+portion_at-portion-requires c = ((accepted _).0 c.requires).points_sound.few
+
 pub state_sound_in-requires : goal.state_sound_in-requires
-state_sound_in-requires c = judgeable _ _ (form (goal.at.state_sound_in-requires c).In_ok-ensure) _ c.requires
+state_sound_in-requires c =
+    rw (← portion_read _ _ _ _ c.read_u32.ensures.0 c.portion_at-portion.ensures)
+    (judgeable _ _ (form (goal.at.state_sound_in-requires c).In_ok-ensure) _ c.requires)
 
 -- ---- what is handed back
 
@@ -50,5 +59,5 @@ returns-in_err-ensure-3 c =
 pub returns : goal.returns
 returns c =
     let a = c.args in
-    rw (past_form a.p.now a.saved.now a.draw c.requires (form (goal.at.returns c).In_ok-ensure), bit (goal.at.returns c).In_ok-ensure-2, going (goal.at.returns c).In_ok-ensure-3, ← c.state_sound_in.ensures)
+    rw (past_form a.p.now a.saved.now a.draw c.requires (form (goal.at.returns c).In_ok-ensure), bit (goal.at.returns c).In_ok-ensure-2, going (goal.at.returns c).In_ok-ensure-3, ← c.state_sound_in.ensures (portion_read _ _ _ _ c.read_u32.ensures.0 c.portion_at-portion.ensures))
     (c.ensure-4.ensures ∙ sym (first_one _))

@@ -8,9 +8,9 @@ use Rattle.calls.proofs.stands.standing_in.Goals as goal
 pub loop-i-init : goal.loop-i-init
 loop-i-init c = let e = c.unseen-s.ensures in (omega arith, seen_none _ _ _ e, rw e (omega arith))
 
-pub record_from-t-requires : goal.record_from-t-requires
+pub record_in-t-requires : goal.record_in-t-requires
 unfolding record_offset
-record_from-t-requires c = omega (arith, c.requires.1, c.loop-i-test.true)
+record_in-t-requires c = omega (arith, c.requires.1, c.loop-i-test.true)
 
 pub loop-i-preserved : goal.loop-i-preserved
 unfolding record_offset
@@ -18,6 +18,6 @@ loop-i-preserved c =
     let l = c.loop-i in
     let e = c.seen-s.ensures in (
       omega (arith, c.loop-i-test.true),
-      seen_next _ (record_in _) l.i l.s _ _ c.record_from-t.ensures l.invariant.1 e.0 e.1 e.2,
+      seen_next _ (record_in _) l.i l.s _ _ c.record_in-t.ensures l.invariant.1 e.0 e.1 e.2,
       omega (arith, e.1, l.invariant.2),
     )

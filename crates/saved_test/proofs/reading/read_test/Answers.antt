@@ -1,6 +1,7 @@
 -- The refusals in their order, then the words.
 use mathlib.Core.Path.{◌≡◌, refl, sym}
 use mathlib.Core.Bool.{true}
+use native.Mathlib.Omega.{arith}
 use Prim.Native.Nat.{◌*◌, ◌≤◌}
 use lib.ListN.{length}
 use Rattle.walk.specs.Units.{wide}
@@ -11,7 +12,7 @@ use Rattle.bucket_test.specs.Words.{words_fit}
 use Rattle.bucket_test.specs.Draw.{state_sound}
 use Rattle.bucket_test.proofs.PartLaws.{words_say}
 use Rattle.saved_test.specs.Reading.{form_fits, state_in, words_in, read_refusal}
-use Rattle.saved_test.proofs.ReadingLaws.{form_long, form_held, judgeable, as_read, read_refused, read_plan, read_none}
+use Rattle.saved_test.proofs.ReadingLaws.{form_long, form_held, judgeable, portion_read, as_read, read_refused, read_plan, read_none}
 use Rattle.saved_test.proofs.reading.read_test.Goals.{In_ok-judge, After-ensure, In_ok-ensure, In_ok-ensure-2, In_ok-ensure-3}
 use Rattle.saved_test.proofs.reading.read_test.Goals as goal
 
@@ -28,7 +29,7 @@ form : (c : In_ok-ensure-2) → form_fits c.args.p.now c.args.bytes.now ≡ true
 form c = kept c.form_fits.ensures _ c.in_ok-ensure-2.ensures
 
 sound : (c : In_ok-ensure-3) → let a = c.args in state_sound a.p.now (state_in a.p.now a.bytes.now) (words_in a.p.now a.bytes.now) ≡ true
-sound c = kept c.state_sound_in.ensures _ c.in_ok-ensure-3.ensures
+sound c = kept (c.state_sound_in.ensures (portion_read _ _ _ _ c.read_u32.ensures.0 c.portion_at-portion.ensures)) _ c.in_ok-ensure-3.ensures
 
 few : (c : In_ok-judge) → c.args.p.now.count ≤ count_limit
 few c = ((accepted _).0 (accepts c)).count_range.1
@@ -38,8 +39,16 @@ few c = ((accepted _).0 (accepts c)).count_range.1
 pub form_fits-requires : goal.form_fits-requires
 form_fits-requires c = few (goal.at.form_fits-requires c).In_ok-judge
 
+pub read_u32-requires : goal.read_u32-requires
+read_u32-requires c = omega (arith, form_long _ _ (form (goal.at.read_u32-requires c).In_ok-ensure-2))
+
+pub portion_at-portion-requires : goal.portion_at-portion-requires
+portion_at-portion-requires c = ((accepted _).0 (accepts (goal.at.portion_at-portion-requires c).In_ok-judge)).points_sound.few
+
 pub state_sound_in-requires : goal.state_sound_in-requires
-state_sound_in-requires c = judgeable _ _ (form (goal.at.state_sound_in-requires c).In_ok-ensure-2) _ (accepts (goal.at.state_sound_in-requires c).In_ok-judge)
+state_sound_in-requires c =
+    rw (← portion_read _ _ _ _ c.read_u32.ensures.0 c.portion_at-portion.ensures)
+    (judgeable _ _ (form (goal.at.state_sound_in-requires c).In_ok-ensure-2) _ (accepts (goal.at.state_sound_in-requires c).In_ok-judge))
 
 pub state_in-state-requires : goal.state_in-state-requires
 state_in-state-requires c = (few (goal.at.state_in-state-requires c).In_ok-judge, form_long _ _ (form (goal.at.state_in-state-requires c).In_ok-ensure-2))
@@ -68,7 +77,7 @@ returns-in_err-ensure-2 c =
 pub returns-in_err-ensure-3 : goal.returns-in_err-ensure-3
 unfolding read_refusal
 returns-in_err-ensure-3 c =
-    let b = broken c.state_sound_in.ensures _ _ c.in_err-ensure-3.ensures in
+    let b = broken (c.state_sound_in.ensures (portion_read _ _ _ _ c.read_u32.ensures.0 c.portion_at-portion.ensures)) _ _ c.in_err-ensure-3.ensures in
     read_refused _ _ _ _ _ c.from_residual-in_err-ensure-3.ensures.1
     (rw (accepts (goal.at.returns-in_err-ensure-3 c).In_ok-judge, fits (goal.at.returns-in_err-ensure-3 c).In_ok-ensure, form (goal.at.returns-in_err-ensure-3 c).In_ok-ensure-2, b.0) b.1)
 

@@ -19,5 +19,6 @@ overflow_cast-size c =
 
 pub returns : goal.returns
 returns c =
-    header_put _ _ _ _ _ _ _ _ _ _ c.write_two.ensures c.write_two-2.ensures
-    c.write_two-3.ensures c.write_two-4.ensures c.write_le.ensures
+    rw (← c.from.ensures)
+    (header_put _ _ _ _ _ _ _ _ _ _ c.write_two.ensures c.write_two-2.ensures
+    c.write_two-3.ensures c.write_two-4.ensures c.write_le.ensures)

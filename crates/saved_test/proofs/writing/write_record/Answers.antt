@@ -13,5 +13,5 @@ returns c =
     let t = c.args.t in
     let fits : SFits w32 t.walked.lower = search rules in
     let bits = c.cast_unsigned.ensures ∙ ap (of_z w32) (to_z-of_z w32 t.walked.lower fits) in
-    record_put t c.args.at _ _ _ c.code_of-code.ensures.0 c.code_of-code.ensures.1 bits _ _ _ _ _ _
-    c.write_two.ensures c.write_two-2.ensures c.write_le.ensures c.write_le-2.ensures c.write_le-3.ensures (omega (arith, c.requires))
+    record_put t c.args.at _ _ _ c.code_of-code.ensures.0 (c.from.ensures ∙ c.code_of-code.ensures.1) bits _ _ _ _ _ _
+    c.write_two.ensures (rw c.from-2.ensures at c.write_two-2.ensures) c.write_le.ensures c.write_le-2.ensures (rw c.from-3.ensures at c.write_le-3.ensures) (omega (arith, c.requires))

@@ -11,7 +11,7 @@ use Rattle.saved_test.specs.Form.{record_size, mass_size, header_size, record_of
 use Rattle.saved_test.specs.Reading.{mass_offset}
 use Rattle.saved_test.proofs.ReadingLaws.{offset_first}
 use Rattle.calls.proofs.TurnLaws.{seen_none, seen_next, few, offset, old_next, old_small, new_few, new_room, new_live, new_masses_lem, new_inside, entries_next, entries_last}
-use Rattle.calls.proofs.turns.Turning.turn_through.Goals.{In-loop-i, After-record_from-t, After-live_count-live}
+use Rattle.calls.proofs.turns.Turning.turn_through.Goals.{In-loop-i, After-record_in-t, After-live_count-live}
 use Rattle.calls.proofs.turns.Turning.turn_through.Goals as goal
 
 pub loop-i-init : goal.loop-i-init
@@ -29,15 +29,15 @@ loop-i-init c =
       lent_is = rw (put_none (record_offset a.self.now.plan.now.count) a.lent.now) (sym (put_none header_size a.lent.now));
     }
 
-pub record_from-t-requires : goal.record_from-t-requires
+pub record_in-t-requires : goal.record_in-t-requires
 unfolding form_size record_offset
-record_from-t-requires c = omega (arith, c.requires.0.form.sized, c.loop-i-test.true)
+record_in-t-requires c = omega (arith, c.requires.0.form.sized, c.loop-i-test.true)
 
 pub turn_at-next-requires : goal.turn_at-next-requires
 unfolding record_offset
 turn_at-next-requires c =
     let l = c.loop-i in
-    let is = c.record_from-t.ensures in
+    let is = c.record_in-t.ensures in
     (c.requires.0, c.loop-i-test.true, is, l.invariant.at_is, rw is (omega (arith, c.requires.1 l.i c.loop-i-test.true, l.invariant.part_size)))
 
 -- ---- the threshold at place i
@@ -89,14 +89,14 @@ unfolding wide
 overflow_add-masses c = let b = small (goal.at.overflow_add-masses c).After-live_count-live in omega (arith, b.0, b.1, place (goal.at.overflow_add-masses c).In-loop-i)
 
 -- where the next old masses stand
-old : (c : After-record_from-t) → let t = c.record_from-t.result in
+old : (c : After-record_in-t) → let t = c.record_in-t.result in
     (c.loop-i.at + mass_size * live_count t ≤ length c.args.self.now.saved.now)
     × (c.loop-i.at + mass_size * live_count t ≡ mass_offset c.args.self.now.saved.now c.args.self.now.plan.now.count (c.loop-i.i + 1))
 unfolding record_offset
-old c = old_next c.requires.0 c.loop-i.i c.loop-i-test.true _ c.record_from-t.ensures c.loop-i.at c.loop-i.invariant.at_is
+old c = old_next c.requires.0 c.loop-i.i c.loop-i-test.true _ c.record_in-t.ensures c.loop-i.at c.loop-i.invariant.at_is
 
 pub overflow_add-at : goal.overflow_add-at
-overflow_add-at c = omega (arith, (old (goal.at.overflow_add-at c).After-record_from-t).0, old_small c.requires.0, c.live_count.ensures.0)
+overflow_add-at c = omega (arith, (old (goal.at.overflow_add-at c).After-record_in-t).0, old_small c.requires.0, c.live_count.ensures.0)
 
 pub loop-i-preserved : goal.loop-i-preserved
 loop-i-preserved c =
@@ -109,7 +109,7 @@ loop-i-preserved c =
       inside = omega (arith, c.loop-i-test.true);
       part_size = omega (arith, l.invariant.part_size, c.turn_at-next.auto.part);
       lent_size = omega (arith, l.invariant.lent_size, c.write_part.auto.bytes, c.write_record.auto.bytes);
-      at_is = rw c.live_count.ensures.0 (old (goal.at.loop-i-preserved c).After-record_from-t).1;
+      at_is = rw c.live_count.ensures.0 (old (goal.at.loop-i-preserved c).After-record_in-t).1;
       masses_are = rw l.invariant.masses_are (new_masses_lem j l.i c.loop-i-test.true _ r.0 _ c.live_count-live.ensures.0);
       seen = seen_next _ _ l.i l.standing _ _ r.0 l.invariant.seen e.0 e.1 e.2;
       high = omega (arith, e.1, l.invariant.high);
