@@ -2,11 +2,12 @@
 use mathlib.Core.Path.{◌≡◌, refl, sym, ap, ap₂, ◌∙◌}
 use mathlib.Core.Bool.{true, false, ◌&&◌}
 use mathlib.Core.List.{List, ◌++◌}
-use Prim.Native.Nat.{ℕ, suc, ◌+◌, ◌≤◌, ◌<◌}
+use Prim.Native.Nat.{ℕ, zero, suc, ◌+◌, ◌≤◌, ◌<◌, max}
 use native.Mathlib.Omega.{arith}
 use borrow.Author.Tests.{eqb-false}
 use lib.IntN.{ℤ, pos, negsuc}
 use lib.ListN.{length, drop}
+use Rattle.std.specs.List.{range_with_len, fold}
 use Rattle.walk.specs.Numbers.{le?, eq_z?}
 use Rattle.walk.specs.Units.{million, wide, horizon_limit}
 use Rattle.walk.specs.Walk.{below, wide?}
@@ -200,3 +201,20 @@ module _ {p : Plan} {bytes : List ℕ} {d : ℕ} (j : Ready p bytes d) where
             wide = seen.wide ∙ any_cong p.count _ _ (λ i l. rw (record_is i l));
           });
         }
+
+-- the largest of what places have is no less than what any of them has, nor than where the search began
+largest_from : (h : ℕ → ℕ) (n a most : ℕ) → let top = fold (λ m i. max m (h i)) most (range_with_len a n) in
+    (most ≤ top) × ((k : ℕ) → k < n → h (a + k) ≤ top)
+largest_from h zero a most = (omega arith, λ k l. absurd (omega (arith, l)))
+largest_from h (suc n) a most =
+    let rest = largest_from h n (a + 1) (max most (h a)) in
+    (omega (arith, rest.0), go rest)
+  where
+    go : (let top = fold (λ m i. max m (h i)) (max most (h a)) (range_with_len (a + 1) n) in
+        (max most (h a) ≤ top) × ((k : ℕ) → k < n → h (a + 1 + k) ≤ top)) → (k : ℕ) → k < suc n
+        → h (a + k) ≤ fold (λ m i. max m (h i)) (max most (h a)) (range_with_len (a + 1) n)
+    go rest zero l = let e : a + 0 ≡ a = omega arith in rw e (omega (arith, rest.0))
+    go rest (suc k) l = let e : a + suc k ≡ a + 1 + k = omega arith in rw e (rest.1 k (omega (arith, l)))
+
+pub largest_range : (h : ℕ → ℕ) (n i : ℕ) → i < n → h i ≤ fold (λ m k. max m (h k)) 0 (range_with_len 0 n)
+largest_range h n i l = let e : 0 + i ≡ i = omega arith in rw e at ((largest_from h n 0 0).1 i l)

@@ -1,9 +1,9 @@
 // A draw to the test that saved bytes hold, under an accepted plan (saved 6).
-ghost use Rattle.std.specs.Prelude.{◌≡◌, [], ◌∷◌, ℕ, ◌≤◌, ◌<◌, length};
+ghost use Rattle.std.specs.Prelude.{◌≡◌, [], ◌∷◌, ℕ, ◌+◌, ◌*◌, ◌≤◌, ◌<◌, length};
 ghost use Rattle.walk.specs.Units.{wide};
 ghost use Rattle.refusals.specs.Refusals.{refusal_in};
 ghost use Rattle.plan.specs.Plan.{count_limit, plan_refusal};
-ghost use Rattle.saved_test.specs.Form.{record_offset, live_count};
+ghost use Rattle.saved_test.specs.Form.{header_size, record_size, live_count};
 ghost use Rattle.saved_test.specs.Reading.{record_in};
 ghost use Rattle.calls.specs.Calls.{drawn_on};
 ghost use Rattle.calls.specs.Inner.{Hands, refusal_on, PartHoldsOneMore, Ready, Took};
@@ -80,15 +80,13 @@ fn take_in<const WORDS: usize>(
 
 // As many masses as the threshold with the most has; that none has more is all that is asked.
 fn most_masses(bytes: &[u8], count: usize) -> usize
-    requires { (count ≤ count_limit) × (record_offset count ≤ length bytes.now) }
+    requires { (count ≤ count_limit) × (header_size + record_size * count ≤ length bytes.now) }
     ensures { (i : ℕ) → i < count → live_count (record_in bytes.now i) ≤ result }
 {
-    let mut most: usize = 0;
-    // By places, since a record is read at its offset.
-    for i in 0..count {
-        most = most.max(live_count(record_in(bytes, i)));
-    }
-    most
+    (0..count)
+        .map(|i| live_count(record_in(bytes, i)))
+        .max()
+        .unwrap_or(0)
 }
 
 // .. in the smallest of these parts that is enough.
