@@ -29,7 +29,7 @@ fn put_number(out: &mut [u8], at: usize, number: u32) -> usize
     ensures { (result ≤ at + 11) × Puts (space ∷ decimal number) at result out.old out.new }
 {
     let mut text = [0u8; 20];
-    let k = io::decimal(number as u64, &mut text);
+    let k = io::decimal(u64::from(number), &mut text);
     let next = put(out, at, &[SPACE]);
     put(out, next, &text[..k])
 }

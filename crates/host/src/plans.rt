@@ -14,6 +14,7 @@ impl From<HostPlan> for Plan {
     ghost from_gives = { λ p r. r ≡ plan_in p };
 
     fn from(p: HostPlan) -> Plan {
+        // a table becomes part of a literal by way of a variable: the borrow checker asks it
         let thresholds = p.thresholds;
         let allowances = p.allowances;
         let left = p.left;

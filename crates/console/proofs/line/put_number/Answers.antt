@@ -7,14 +7,18 @@ pub put-requires : goal.put-requires
 put-requires c =
     let d = c.decimal-k in
     let a = c.args in
-    let e = decimal_is a.number d.result d.ensures.len d.new.out (omega arith) (omega arith) d.ensures.digits in
+    let len = rw c.from.ensures at d.ensures.len in
+    let digits = rw c.from.ensures at d.ensures.digits in
+    let e = decimal_is a.number d.result len d.new.out (omega arith) (omega arith) digits in
     omega (arith, e.0, c.put-next.ensures.behind)
 
 pub returns : goal.returns
 returns c =
     let d = c.decimal-k in
     let a = c.args in
-    let e = decimal_is a.number d.result d.ensures.len d.new.out (omega arith) (omega arith) d.ensures.digits in
+    let len = rw c.from.ensures at d.ensures.len in
+    let digits = rw c.from.ensures at d.ensures.digits in
+    let e = decimal_is a.number d.result len d.new.out (omega arith) (omega arith) digits in
     let p = c.put-next.ensures in
     let q = c.put.ensures in
     (omega (arith, e.0, p.behind, q.behind), rw e.1 at (puts_more (omega arith) p q))
