@@ -9,6 +9,10 @@ use Rattle.walk.proofs.Parts.{places}
 use Rattle.walk.proofs.row.trim.Goals.{After-absorb-bottom}
 use Rattle.walk.proofs.row.trim.Goals as goal
 
+-- the limit e, and the first m cells, however they are written
+limited : {x e n : ℕ} (s : ℕ) (xs : List ℕ) → n ≡ dropped x s xs → x ≡ e → n ≡ dropped e s xs
+limited s xs h same = rw same at h
+
 module _ (c : After-absorb-bottom) where
   abbrev cs : List ℕ
   cs = take c.args.m c.args.part.now
@@ -18,7 +22,7 @@ module _ (c : After-absorb-bottom) where
 
   bottom : (c.absorb-bottom.result.count ≡ dropped c.args.e c.args.under cs)
       × (c.absorb-bottom.result.spent ≡ c.args.under + sum (take c.absorb-bottom.result.count cs))
-  bottom = c.absorb-bottom.ensures cs (YieldsList-from_slice cs (cc)).runs
+  bottom = let b = c.absorb-bottom.ensures cs (YieldsList-from_slice cs (cc)).runs in (limited c.args.under cs b.0 (omega arith), b.1)
 
   top : let hi = c.args.m - c.absorb-top.result.count in
       (c.absorb-top.result.count ≤ c.args.m) × (hi ≡ kept c.args.e c.args.over cs)
