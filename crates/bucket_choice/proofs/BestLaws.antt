@@ -2,7 +2,7 @@
 use mathlib.Core.Path.{◌≡◌, refl}
 use mathlib.Core.Bool.{Bool, cond, true, false}
 use mathlib.Core.List.{◌∷◌}
-use mathlib.Core.Logic.{◌⊎◌, inl, inr, ⊎_elim}
+use mathlib.Core.Logic.{◌⊎◌, ◌↔◌, inl, inr, ⊎_elim}
 use Prim.Native.Nat.{ℕ, zero, suc, ◌+◌, ◌≤◌, ◌<◌}
 use native.Mathlib.Numerals.{add-one}
 use native.Mathlib.Nat.{eq-or-lt_of_le}
@@ -83,35 +83,43 @@ module _ (p : Plan) (low high : ℕ) where
       ⊎_elim (λ none. inr (λ j h. none j h.inside h))
       (λ s. let c : Chosen p low high s.0 = best_chosen s.1 in inl (rw (chosen_found p low high c) c)) (found p.buckets (omega arith))
 
--- ---- the first of the least by width, of the places that contain the interval
+-- ---- the first of the least by a key, of the places that contain the interval
 
-module _ (p : Plan) (low high : ℕ) where
+-- a later place has a lesser key just where its bucket is narrower
+abbrev pub Ranks : Plan → (ℕ → ℕ) → Type 0
+Ranks p key = (i j : ℕ) → i < j → j < p.buckets → (key j < key i) ↔ (width_at p j < width_at p i)
+
+module _ (p : Plan) (low high : ℕ) (key : ℕ → ℕ) (ranks : Ranks p key) where
   -- the place n contains it too
-  best_more : (n : ℕ) → Contains p low high n → {k : ℕ} → BestTo p low high n k → BestTo p low high (suc n) (lesser (width_at p) k n)
-  best_more n h {k} b = go (nat_cmp (width_at p k) (width_at p n)) (ranked (width_at p k) (width_at p n) _ refl)
+  best_more : (n : ℕ) → Contains p low high n → {k : ℕ} → BestTo p low high n k → BestTo p low high (suc n) (lesser key k n)
+  best_more n h {k} b = go (nat_cmp (key k) (key n)) (ranked (key k) (key n) _ refl)
     where
-      go : (o : Ordering)
-          → MatchOrdering o (width_at p k < width_at p n) (width_at p k ≡ width_at p n) (width_at p n < width_at p k)
-          → BestTo p low high (suc n) (min_by_ordering o k n)
-      go Less m = best_still p low high n b (λ g. omega arith)
-      go Equal m = best_still p low high n b (λ g. omega arith)
-      go Greater m = best_here p low high n h (λ i l g. omega (arith, b.none_narrower i l g))
+      narrower : (key n < key k) ↔ (width_at p n < width_at p k)
+      narrower = ranks k n b.before h.inside
+
+      stays : key k ≤ key n → width_at p k ≤ width_at p n
+      stays l = ⊎_elim (λ m. m) (λ m. absurd (omega (arith, narrower.1 m))) (le_or_lt (width_at p k) (width_at p n))
+
+      go : (o : Ordering) → MatchOrdering o (key k < key n) (key k ≡ key n) (key n < key k) → BestTo p low high (suc n) (min_by_ordering o k n)
+      go Less m = best_still p low high n b (λ g. stays (omega arith))
+      go Equal m = best_still p low high n b (λ g. stays (omega arith))
+      go Greater m = best_here p low high n h (λ i l g. omega (arith, narrower.0 m, b.none_narrower i l g))
 
   -- what is picked of the n places from a on, after those before a
   module _ (m : ℕ) (inside : m ≤ p.buckets) where
     best_rest : (n a : ℕ) → a + n ≡ m → (k : ℕ) → BestTo p low high a k
-        → BestTo p low high m (fold (lesser (width_at p)) k (filter (contains p low high) (range_with_len a n)))
+        → BestTo p low high m (fold (lesser key) k (filter (contains p low high) (range_with_len a n)))
     best_rest zero a e k b = let z : a ≡ m = omega arith in rw (← z) b
     best_rest (suc n) a e k b =
         go (contains p low high a) refl (λ j c. best_rest n (a + 1) (omega arith) j (rw add-one c))
       where
         go : (t : Bool) → contains p low high a ≡ t
             → ((j : ℕ) → BestTo p low high (suc a) j
-            → BestTo p low high m (fold (lesser (width_at p)) j (filter (contains p low high) (range_with_len (a + 1) n))))
+            → BestTo p low high m (fold (lesser key) j (filter (contains p low high) (range_with_len (a + 1) n))))
             → BestTo p low high m
-            (fold (lesser (width_at p)) k
+            (fold (lesser key) k
             (cond t (a ∷ filter (contains p low high) (range_with_len (a + 1) n)) (filter (contains p low high) (range_with_len (a + 1) n))))
-        go true t rest = rest (lesser (width_at p) k a) (best_more a (contains_says p low high a (omega arith) t) b)
+        go true t rest = rest (lesser key k a) (best_more a (contains_says p low high a (omega arith) t) b)
         go false t rest = rest k (best_still p low high a b (λ h. absurd (contains_not p low high a t h)))
 
     -- .. where none before a does
@@ -119,22 +127,22 @@ module _ (p : Plan) (low high : ℕ) where
     Picked None = NoneTo p low high m
     Picked (Some k) = BestTo p low high m k
 
-    picked : (n a : ℕ) → a + n ≡ m → NoneTo p low high a → Picked (reduce (lesser (width_at p)) (filter (contains p low high) (range_with_len a n)))
+    picked : (n a : ℕ) → a + n ≡ m → NoneTo p low high a → Picked (reduce (lesser key) (filter (contains p low high) (range_with_len a n)))
     picked zero a e none = let z : a ≡ m = omega arith in rw (← z) none
     picked (suc n) a e none =
         go (contains p low high a) refl (λ c. picked n (a + 1) (omega arith) (rw add-one c))
       where
         go : (t : Bool) → contains p low high a ≡ t
-            → (NoneTo p low high (suc a) → Picked (reduce (lesser (width_at p)) (filter (contains p low high) (range_with_len (a + 1) n))))
+            → (NoneTo p low high (suc a) → Picked (reduce (lesser key) (filter (contains p low high) (range_with_len (a + 1) n))))
             → Picked
-            (reduce (lesser (width_at p))
+            (reduce (lesser key)
             (cond t (a ∷ filter (contains p low high) (range_with_len (a + 1) n)) (filter (contains p low high) (range_with_len (a + 1) n))))
         go true t rest =
             best_rest n (a + 1) (omega arith) a
             (rw add-one (best_here p low high a (contains_says p low high a (omega arith) t) (λ i l g. absurd (none i l g))))
         go false t rest = rest (none_more p low high a none (contains_not p low high a t))
 
-  pub picked_is : reduce (lesser (width_at p)) (filter (contains p low high) (range_with_len 0 p.buckets)) ≡ named p.buckets (chosen_bucket p low high)
+  pub picked_is : reduce (lesser key) (filter (contains p low high) (range_with_len 0 p.buckets)) ≡ named p.buckets (chosen_bucket p low high)
   picked_is = go _ (picked p.buckets (omega arith) p.buckets 0 (omega arith) (λ i l. absurd (omega arith)))
     where
       go : (o : Option ℕ) → Picked p.buckets (omega arith) o → o ≡ named p.buckets (chosen_bucket p low high)
