@@ -7,7 +7,7 @@ fn bytes_at<const N: usize>(bytes: &[u8], at: usize) -> [u8; N]
     requires { at + N ≤ length bytes.now }
     ensures { result ≡ take N (drop at bytes.now) }
 {
-    *bytes[at..].first_chunk().unwrap()
+    *bytes[at..at + N].first_chunk().unwrap()
 }
 
 // The number of two bytes at an offset.

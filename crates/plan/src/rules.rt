@@ -117,7 +117,7 @@ impl Plan {
         requires { self.now.count ≤ count_limit }
         ensures { result ≡ permitted self.now end }
     {
-        end == 0 || end == MILLION || self.counted_thresholds().contains(&end)
+        end == 0 || end == MILLION || self.counted_thresholds().iter().any(|&t| t == end)
     }
 
     // A bucket fits: left end below right end, not the whole of 0 to 1,000,000, and both ends permitted.
@@ -162,7 +162,8 @@ impl Plan {
         ensures { result ≡ rule6 self.now }
     {
         let b = self.buckets as usize;
-        self.left[..b].contains(&0) && self.right[..b].iter().all(|&end| self.covers_above(end))
+        self.left[..b].iter().any(|&left| left == 0)
+            && self.right[..b].iter().all(|&end| self.covers_above(end))
     }
 
     // The first rule that the plan breaks, if any: any plan may be handed in.
