@@ -4,7 +4,8 @@ ghost use Rattle.refusals.specs.Refusals.{refusal_in};
 ghost use Rattle.plan.specs.Plan.{count_limit, bucket_limit};
 ghost use Rattle.little.specs.Little.{column, filled};
 ghost use Rattle.stored_plan.specs.Form.{header_size, threshold_entry_size, allowance_field, bucket_entry_size, right_field, form_size};
-ghost use Rattle.stored_plan.specs.Reading.{count_in, buckets_in, plan_in, offsets_fit, form_refusal, no_plan, decoded, read_as, lent_as};
+ghost use Rattle.stored_plan.specs.Reading.{count_in, buckets_in, plan_in, offsets_fit, form_refusal, decoded, read_as, lent_as};
+ghost use Rattle.stored_plan.specs.Inner.{Blank};
 
 use crate::form::{
     ALLOWANCE_FIELD, BUCKET_ENTRY_SIZE, BUCKET_OFFSET_FIELD, BUCKETS_FIELD, COUNT_FIELD,
@@ -14,7 +15,7 @@ use crate::form::{
 use crate::{HEADER_SIZE, NO_PLAN};
 use little::numbers::{read_u16, read_u32, read_u64};
 use plan::rules::counts_fit;
-use plan::{BUCKET_LIMIT, COUNT_LIMIT, Plan};
+use plan::{BUCKET_LIMIT, COUNT_LIMIT, POINT_LIMIT, Plan};
 use refusals::{Refusal, ensure};
 
 // Whether the header's offsets are those of its counts.
@@ -35,8 +36,10 @@ fn judge_form(bytes: &[u8]) -> Result<(), Refusal>
 {
     let count = read_u16(bytes, COUNT_FIELD);
     let buckets = read_u16(bytes, BUCKETS_FIELD);
-    ensure(counts_fit(count, buckets), Refusal::Counts)?;
-    ensure(offsets_fit(bytes), Refusal::Form)?;
+    let counts = counts_fit(count, buckets);
+    let offsets = offsets_fit(bytes);
+    ensure(counts, Refusal::Counts)?;
+    ensure(offsets, Refusal::Form)?;
     ensure(bytes.len() == form_size(count, buckets), Refusal::Form)
 }
 
@@ -77,18 +80,21 @@ fn buckets_in(
     }
 }
 
-// The plan of a form that its counts and its length fit, which has no points, into lent zeros.
+// The plan of a form that its counts and its length fit, which has no points, into one whose tables of thresholds and buckets are zeros.
 #[tactic(auto, unfolding(crate::specs::Form::form_size, crate::specs::Form::bucket_offset, crate::specs::Reading::count_in, crate::specs::Reading::buckets_in))]
 fn plan_into(bytes: &[u8], plan: &mut Plan)
     requires { ((count_in bytes.now ≤ count_limit) × (buckets_in bytes.now ≤ bucket_limit)
         × (length bytes.now ≡ form_size (count_in bytes.now) (buckets_in bytes.now)))
-        × (plan.old ≡ no_plan) }
+        × Blank plan.old }
     ensures { plan.new ≡ plan_in bytes.now }
 {
     plan.count = read_u16(bytes, COUNT_FIELD);
     plan.buckets = read_u16(bytes, BUCKETS_FIELD);
     plan.delay = read_u32(bytes, DELAY_FIELD);
     plan.horizon = read_u32(bytes, HORIZON_FIELD);
+    plan.points = 0;
+    plan.steps = [0; POINT_LIMIT];
+    plan.shares = [0; POINT_LIMIT];
     let k = plan.count as usize;
     let b = plan.buckets as usize;
     let at = bucket_offset(plan.count);
@@ -96,9 +102,10 @@ fn plan_into(bytes: &[u8], plan: &mut Plan)
     buckets_in(bytes, at, b, &mut plan.left, &mut plan.right);
 }
 
-// The same as `read_plan` into a lent plan of zeros, of which nothing is said on a refusal: a plan that is handed back is copied.
+// The same as `read_plan` into a lent plan whose tables of thresholds and buckets are zeros, of which nothing is said on a refusal: a plan that
+// is handed back is copied.
 pub fn read_into(bytes: &[u8], plan: &mut Plan) -> Result<(), Refusal>
-    requires { plan.old ≡ no_plan }
+    requires { Blank plan.old }
     ensures { lent_as result plan.new ≡ decoded bytes.now }
 {
     ensure(HEADER_SIZE <= bytes.len(), Refusal::Form)?;
